@@ -417,6 +417,13 @@ module _ (room : ℕ) (setting : CoreSetting) (from : CoreConfiguration) (lent :
           sym (even_length (owning rest) (common (owning rest) fields) (without fields (owning rest))
           (λ weight. sym (fields_even (owning rest) fields now_apart ok.fine.1.0 weight)))
 
+      -- what is paid for pays for the rest too, where the opening gives up no more than the cell
+      fields_paid : (given : List ℕ) → owning (unpack x c fields rest) ≡ given ++ without fields (owning rest)
+          → room + step_cost + part_cost * length fields + drop_cost * length given + credit_of (owning rest)
+          ≤ most + drop_cost * length (common (owning rest) fields)
+      fields_paid given owned =
+          omega (arith, costs, ap length owned, length-append given (without fields (owning rest)), fields_length)
+
       follows_read : owning (unpack x c fields rest) ≡ without fields (owning rest)
           → Does 1 most (goes (at_code rest (bind_fields fields vs environment) joins from))
           (Counted.read x c fields (dups (common (owning rest) fields) (inserted_code rest)))
@@ -433,13 +440,7 @@ module _ (room : ℕ) (setting : CoreSetting) (from : CoreConfiguration) (lent :
           (conf (Counted.read x c fields (dups (common (owning rest) fields) (inserted_code rest))) environment
           (image_joins setting.positions setting.code.functions lent joins) frames heap)) input) opens)
           (tt, (tt, (tt, (is_cell, tt))))
-          (omega (
-            arith,
-            costs,
-            ap length owned,
-            fields_length,
-            filter_length (is_among (owning rest)) fields,
-          ))
+          (omega (arith, fields_paid [] owned, filter_length (is_among (owning rest)) fields))
           (dups_path (inserted_at room setting) (StandsAs step_done) (bind_fields fields vs environment)
           (image_joins setting.positions setting.code.functions lent joins) frames below input 0 []
           (common (owning rest) fields) (without fields (owning rest)) (inserted_code rest) heap
@@ -478,9 +479,7 @@ module _ (room : ℕ) (setting : CoreSetting) (from : CoreConfiguration) (lent :
           (tt, (tt, (tt, (is_cell, tt))))
           (omega (
             arith,
-            costs,
-            ap length owned,
-            fields_length,
+            fields_paid (x ∷ []) owned,
             ap length in_use,
             filter_length (is_among (common (owning rest) fields)) fields,
           ))

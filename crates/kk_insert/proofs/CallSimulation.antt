@@ -14,6 +14,7 @@ use Rattle.kk_core.specs.Codes.{Code, tail_call, FunctionCode}
 use Rattle.kk_core.specs.Costs.{step_cost, part_cost}
 use Rattle.kk_core.specs.CoreStates.{CoreSetting, Join, CallFrame, CoreConfiguration}
 use Rattle.kk_core.specs.CoreMachine.{at_end, in_code, tail_step, call_step}
+use Rattle.kk_core.proofs.CallFrames.{call_frame}
 use Rattle.kk_counted.proofs.ListLengths.{positions_few}
 use Rattle.kk_counted.specs.CountedCodes as Counted
 use Rattle.kk_counted.specs.CountedCodes.{CountedFunction}
@@ -173,15 +174,7 @@ module _ (room : ℕ) (setting : CoreSetting) (promise : IsInsertable setting.po
     values = map (value_of environment) arguments
 
     abbrev waiting : CallFrame
-    waiting =
-        record {
-          variable = x;
-          rest = rest;
-          joins = joins;
-          environment = environment;
-          lent = lent_places
-              (is_lent setting.positions f) 0 values;
-        }
+    waiting = call_frame setting x rest joins environment f values
 
     abbrev image : CountedFrame
     image = image_frame setting.positions setting.code.functions lent (lends setting.positions (Call f) arguments) waiting

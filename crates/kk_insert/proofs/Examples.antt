@@ -8,30 +8,22 @@ use Rattle.kk_syntax.specs.declared.operator.BinaryOperator.TheVariants.{Add}
 use Rattle.kk_syntax.specs.declared.operator.PrintForm.TheVariants.{PrintLine}
 use Rattle.kk_syntax.specs.declared.positions.Ownership.TheVariants.{Lent}
 use Rattle.kk_syntax.specs.declared.program.Form.TheVariants.{Number, Binary, Print, Construct, Call}
-use Rattle.kk_syntax.specs.Patterns.{Pattern, anything, constructor, no_part, part}
+use Rattle.kk_syntax.specs.Patterns.{anything}
 use Rattle.kk_syntax.specs.PositionsOf.{PositionTable, all_owned}
 use Rattle.kk_source.specs.State.{ended}
 use Rattle.kk_source.specs.Notes.{Note}
-use Rattle.kk_core.specs.declared.decisions.Answer.TheVariants.{Constructor}
 use Rattle.kk_core.specs.Codes.{Code, give, case, compute, unpack, no_arm, arm, FunctionCode}
 use Rattle.kk_core.specs.CoreStates.{CoreSetting, core_first_state}
 use Rattle.kk_core.specs.CoreMachine.{core_machine}
-use Rattle.kk_core.specs.Decisions.{NodeTree, chooses, tests}
 use Rattle.kk_counted.specs.CountedCodes as Counted
 use Rattle.kk_counted.specs.Heaps.{busy}
 use Rattle.kk_counted.specs.CountedStates.{CountedState, stopped, counted_first_state}
 use Rattle.kk_counted.specs.CountedMachine.{counted_machine}
+use Rattle.kk_core.proofs.ListExamples.{nil, cons, one_or_more, first_two, with_list, with_one_ordered}
 use Rattle.kk_counted.proofs.Examples.{nil_or_cons}
 use Rattle.kk_insert.specs.Meaning.{inserted_setting}
 use Rattle.kk_insert.specs.Promise.{IsFunctionInsertable, IsInsertable}
 use Rattle.kk_insert.specs.Insertion.{inserted_function}
-
--- type list<a> { Nil; Cons(head: a, tail: list<a>) }: constructors 2 and 3
-abbrev nil : Pattern
-nil = constructor 2 no_part
-
-abbrev cons : Pattern → Pattern → Pattern
-cons head tail = constructor 3 (part head (part tail no_part))
 
 -- the program of a function and a `main`, on both machines
 abbrev core : PositionTable → FunctionCode → FunctionCode → CoreSetting
@@ -53,14 +45,15 @@ abbrev counted_end : CoreSetting → CountedState
 counted_end setting = state (counted_machine (λ s. 1) (inserted_setting setting)) 90
     (counted_first_state (inserted_setting setting) [])
 
--- a list of the numbers 8 and 7, which variable 4 names
-abbrev with_list : Code → FunctionCode
-with_list rest = record {
-  parameters = 0;
-  variables = 9;
-  body = compute 0 (Construct 2) [] (compute 1 (Number (pos 7)) [] (compute 2 (Construct 3) (1 ∷ 0 ∷ [])
-      (compute 3 (Number (pos 8)) [] (compute 4 (Construct 3) (3 ∷ 2 ∷ []) rest))));
-}
+-- `main` with a list of the numbers 8 and 7
+abbrev on_list : Code → FunctionCode
+on_list rest = record { parameters = 0; variables = 9; body = with_list rest }
+
+-- println(f(xs) + f(xs)), where f is the first function and xs the list
+abbrev prints_both : Code
+prints_both =
+    compute 5 (Call 0) (4 ∷ []) (compute 6 (Call 0) (4 ∷ [])
+    (compute 7 (Binary Add) (5 ∷ 6 ∷ []) (compute 8 (Print PrintLine) (7 ∷ []) (give 8))))
 
 -- fun len(^xs) { match xs { Nil -> 0; Cons(_, xx) -> 1 + len(xx) } }
 abbrev len : FunctionCode
@@ -92,9 +85,7 @@ len_inserted = refl
 
 -- println(len(xs) + len(xs)): the list is lent twice, and dropped as soon as the second call has returned
 abbrev two_lendings_main : FunctionCode
-two_lendings_main =
-    with_list (compute 5 (Call 0) (4 ∷ [])
-    (compute 6 (Call 0) (4 ∷ []) (compute 7 (Binary Add) (5 ∷ 6 ∷ []) (compute 8 (Print PrintLine) (7 ∷ []) (give 8)))))
+two_lendings_main = on_list prints_both
 
 abbrev two_lendings : CoreSetting
 two_lendings = core lent_first len two_lendings_main
@@ -111,26 +102,6 @@ lendings_leave_none : busy (counted_end two_lendings).machine.heap ≡ 0
 unfolding int_wrap digits
 lendings_leave_none = refl
 
--- the rows Cons(_, Nil), Cons(_, Cons(_, _)) and Nil: the list is tested, and then the tail of a cell
-abbrev one_or_more : List NodeTree
-one_or_more =
-    tests [] (record { found = Constructor 3; next = 1 } ∷ record { found = Constructor 2; next = 4 } ∷ []) None
-    ∷ tests (1 ∷ []) (record { found = Constructor 2; next = 2 } ∷ record { found = Constructor 3; next = 3 } ∷ []) None
-    ∷ chooses 0 ∷ chooses 1 ∷ chooses 2 ∷ []
-
--- fun first_two(xs) { match xs { Cons(x, Nil) -> x; Cons(x, Cons(y, _)) -> x + y; Nil -> 0 } }
-abbrev first_two : FunctionCode
-first_two = record {
-  parameters = 1;
-  variables = 9;
-  body = case 0 one_or_more
-      (arm (cons anything nil) (unpack 0 3 (1 ∷ 2 ∷ []) (give 1))
-      (arm (cons anything (cons anything anything))
-      (unpack 0 3 (3 ∷ 4 ∷ []) (unpack 4 3 (5 ∷ 6 ∷ []) (compute 7 (Binary Add) (3 ∷ 5 ∷ []) (give 7))))
-      (arm nil (compute 8 (Number (pos 0)) [] (give 8))
-      no_arm)));
-}
-
 -- each cell that is opened is given up, and the fields that are used get a reference more; an arm that opens none drops the list
 first_two_inserted : inserted_function all_owned 0 first_two ≡ record {
   parameters = 1;
@@ -146,10 +117,7 @@ first_two_inserted = refl
 
 -- println(first_two(xs) + first_two(xs)): the first call takes a dup of the list
 abbrev two_calls : CoreSetting
-two_calls =
-    core all_owned first_two
-    (with_list (compute 5 (Call 0) (4 ∷ [])
-    (compute 6 (Call 0) (4 ∷ []) (compute 7 (Binary Add) (5 ∷ 6 ∷ []) (compute 8 (Print PrintLine) (7 ∷ []) (give 8))))))
+two_calls = core all_owned first_two (on_list prints_both)
 
 calls_tell : counted_tells two_calls ≡ core_tells two_calls
 unfolding int_wrap digits
@@ -204,36 +172,16 @@ len_insertable =
 main_insertable : IsFunctionInsertable lent_first lendings 1 two_lendings_main
 main_insertable =
     record {
-      ordered = (
+      ordered = with_one_ordered 7 (compute 3 (Number (pos 8)) [] (compute 4 (Construct 3) (3 ∷ 2 ∷ []) prints_both)) 9 (
         tt,
         omega arith,
         (
-          tt,
+          (refl, (refl, tt)),
           omega arith,
           (
-            (refl, (refl, tt)),
+            (refl, tt),
             omega arith,
-            (
-              tt,
-              omega arith,
-              (
-                (refl, (refl, tt)),
-                omega arith,
-                (
-                  (refl, tt),
-                  omega arith,
-                  (
-                    (refl, tt),
-                    omega arith,
-                    (
-                      (refl, (refl, tt)),
-                      omega arith,
-                      ((refl, tt), omega arith, (refl, omega arith)),
-                    ),
-                  ),
-                ),
-              ),
-            ),
+            ((refl, tt), omega arith, ((refl, (refl, tt)), omega arith, ((refl, tt), omega arith, (refl, omega arith)))),
           ),
         ),
       );

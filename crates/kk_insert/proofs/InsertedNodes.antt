@@ -9,8 +9,9 @@ use Rattle.kk_core.specs.CodeNodes.{are_truths, gives, pattern_nodes, arms_patte
 use Rattle.kk_counted.specs.CountedCodes as Counted
 use Rattle.kk_counted.specs.TokenCosts.{openings, openings_of}
 use Rattle.kk_counted.specs.TokenWords.{branch_ends, arms_ends}
-use Rattle.kk_insert.specs.Insertion.{common, dups, drops, dropping, opening, owns, wants, back, used, lends, own, insert, insert_arms}
-use Rattle.kk_insert.proofs.Openings.{dups_open, drops_open, opening_opens}
+use Rattle.kk_insert.specs.Insertion.{common, dups, drops, opening, wants, used, own, insert, insert_arms}
+use Rattle.kk_insert.proofs.Openings.{dups_open, drops_open, form_opens, opening_opens}
+use Rattle.kk_insert.proofs.PassedCounts.{past_dups, past_drops, past_form}
 
 -- ---- nodes
 
@@ -64,12 +65,10 @@ arms_nodes fields false (arm pattern body rest) = omega (arith, arms_nodes field
 -- ---- ends behind dups and drops
 
 dups_ends : (xs : List ℕ) (rest : Counted.Counted) → branch_ends (dups xs rest) ≡ branch_ends rest
-dups_ends [] rest = refl
-dups_ends (x ∷ xs) rest = dups_ends xs rest
+dups_ends = past_dups branch_ends (λ x rest. refl) (λ x rest. refl)
 
 pub drops_ends : (xs : List ℕ) (rest : Counted.Counted) → branch_ends (drops xs rest) ≡ branch_ends rest
-drops_ends [] rest = refl
-drops_ends (x ∷ xs) rest = drops_ends xs rest
+drops_ends = past_drops branch_ends (λ x rest. refl) (λ x rest. refl)
 
 opening_ends : (stays : Bool) (x c : ℕ) (fields in_use : List ℕ) (rest : Counted.Counted)
     → branch_ends (opening stays x c fields in_use rest) ≡ branch_ends rest
@@ -94,18 +93,7 @@ module _ (positions : PositionTable) (lent : List ℕ) where
           arms_nodes fields truths arms,
         )
     openings_few fields opens left (compute x form arguments rest) brief =
-        let now : List ℕ = own positions lent left rest in
-        let given : List ℕ = lends positions form arguments in
-        let after : List ℕ = owns lent given (without (x ∷ []) now) in
-        let code : Counted.Counted = insert positions lent left rest in
-        omega (
-          arith,
-          dups_open (wants lent (used positions form arguments) after)
-              (Counted.compute x form arguments (back lent given x now code)),
-          drops_open (without (without (x ∷ []) now) after) (dropping (x ∷ []) now code),
-          drops_open (without now (x ∷ [])) code,
-          openings_few fields false left rest brief,
-        )
+        omega (arith, form_opens positions lent left x form arguments rest, openings_few fields false left rest brief)
     openings_few fields opens left (use_of x rest) brief =
         omega (
           arith,
@@ -149,16 +137,9 @@ module _ (positions : PositionTable) (lent : List ℕ) where
     ends_few left (case x decisions arms) =
         omega (arith, arms_end_few left (own positions lent left (case x decisions arms)) arms)
     ends_few left (compute x form arguments rest) =
-        let now : List ℕ = own positions lent left rest in
-        let given : List ℕ = lends positions form arguments in
-        let after : List ℕ = owns lent given (without (x ∷ []) now) in
-        let code : Counted.Counted = insert positions lent left rest in
         omega (
           arith,
-          dups_ends (wants lent (used positions form arguments) after)
-              (Counted.compute x form arguments (back lent given x now code)),
-          drops_ends (without (without (x ∷ []) now) after) (dropping (x ∷ []) now code),
-          drops_ends (without now (x ∷ [])) code,
+          past_form branch_ends (λ y behind. refl) (λ y behind. refl) positions lent left x form arguments rest (λ behind. refl),
           ends_few left rest,
           by_test (gives x rest) refl,
         )

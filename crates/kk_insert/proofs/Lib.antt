@@ -33,6 +33,7 @@ pub mod Lowerability
 mod BlockEnds
 pub mod VariableBounds
 pub mod LengthBounds
+pub mod PassedCounts
 pub mod Openings
 pub mod WordRooms
 pub mod NeededWords

@@ -1,6 +1,7 @@
 -- Inserted code opens no more cells on a path than the core code that it is made of.
 use Rattle.std.proofs.Common.{◌≡◌, ℕ, zero, suc, ◌≤◌, Bool, true, false, ◌||◌, List, [], ◌∷◌, Some, refl, subst, arith}
 use Rattle.std.specs.Prelude.{slice_get}
+use Rattle.kk_syntax.specs.declared.program.Form.{Form}
 use Rattle.kk_syntax.specs.declared.program.Form.TheVariants.{Call}
 use Rattle.kk_syntax.specs.Shapes.{is_among, without}
 use Rattle.kk_syntax.specs.PositionsOf.{PositionTable}
@@ -10,15 +11,19 @@ use Rattle.kk_counted.specs.CountedCodes as Counted
 use Rattle.kk_counted.specs.CountedCodes.{CountedFunction}
 use Rattle.kk_counted.specs.Spending.{at_positions, numbers_from, is_owned}
 use Rattle.kk_counted.specs.TokenCosts.{openings, openings_of, OpenAtMost}
-use Rattle.kk_insert.specs.Insertion.{common, dups, drops, dropping, opening, owns, wants, back, used, lends, lent_of, own, insert, insert_arms, inserted_function, inserted_functions, inserted}
+use Rattle.kk_insert.specs.Insertion.{common, dups, drops, opening, wants, used, lent_of, own, insert, insert_arms, inserted_function, inserted_functions, inserted}
+use Rattle.kk_insert.proofs.PassedCounts.{past_dups, past_drops, past_form}
 
 pub dups_open : (xs : List ℕ) (rest : Counted.Counted) → openings (dups xs rest) ≡ openings rest
-dups_open [] rest = refl
-dups_open (x ∷ xs) rest = dups_open xs rest
+dups_open = past_dups openings (λ x rest. refl) (λ x rest. refl)
 
 pub drops_open : (xs : List ℕ) (rest : Counted.Counted) → openings (drops xs rest) ≡ openings rest
-drops_open [] rest = refl
-drops_open (x ∷ xs) rest = drops_open xs rest
+drops_open = past_drops openings (λ x rest. refl) (λ x rest. refl)
+
+pub form_opens : (positions : PositionTable) (lent left : List ℕ) (x : ℕ) (form : Form) (arguments : List ℕ) (rest : Code)
+    → openings (insert positions lent left (compute x form arguments rest)) ≡ openings (insert positions lent left rest)
+form_opens positions lent left x form arguments rest =
+    past_form openings (λ y behind. refl) (λ y behind. refl) positions lent left x form arguments rest (λ behind. refl)
 
 pub opening_opens : (stays : Bool) (x c : ℕ) (fields in_use : List ℕ) (rest : Counted.Counted)
     → openings (opening stays x c fields in_use rest) ≤ suc (openings rest)
@@ -34,18 +39,7 @@ module _ (positions : PositionTable) where
           omega (arith, dups_open (wants lent (used positions (Call f) arguments) left) (Counted.tail_call f arguments))
       insert_opens (case x decisions arms) left = arms_open arms left (own positions lent left (case x decisions arms))
       insert_opens (compute x form arguments rest) left =
-          let now : List ℕ = own positions lent left rest in
-          let behind : Counted.Counted = back lent (lends positions form arguments) x now (insert positions lent left rest) in
-          omega (
-            arith,
-            dups_open
-                (wants lent (used positions form arguments) (owns lent (lends positions form arguments) (without (x ∷ []) now)))
-                (Counted.compute x form arguments behind),
-            drops_open (without (without (x ∷ []) now) (owns lent (lends positions form arguments) (without (x ∷ []) now)))
-                (dropping (x ∷ []) now (insert positions lent left rest)),
-            drops_open (without now (x ∷ [])) (insert positions lent left rest),
-            insert_opens rest left,
-          )
+          omega (arith, form_opens positions lent left x form arguments rest, insert_opens rest left)
       insert_opens (use_of x rest) left =
           omega (
             arith,

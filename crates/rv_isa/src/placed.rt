@@ -1,9 +1,13 @@
 // Assembler code whose values have places, with moves between places; and code that names its registers itself.
 
+ghost use Rattle.std.specs.Prelude.{◌≡◌, IfOk};
+ghost use Rattle.rv_isa.specs.PlacedCode.{placed_line_of};
+
 use crate::asm::{Action, Condition};
 use crate::routine::Routine;
 use crate::{Instr, Register};
-use kk_base::Text;
+use kk_base::{NoMemory, Text};
+use std::alloc::Global;
 
 /// A text in its placed form: code over named registers, as the runtime is; functions whose values have places; and what
 /// both keep in memory. A call names a function by its index.
@@ -83,6 +87,32 @@ pub enum Item {
         value: u32,
         way: Way,
     },
+}
+
+impl Item {
+    /// The same line again.
+    pub fn copied(&self, alloc: Global) -> Result<Item, NoMemory>
+        ensures { IfOk result (λ copy. placed_line_of copy ≡ placed_line_of self.now) }
+    {
+        match self {
+            Item::Does {
+                alive,
+                action,
+                args,
+                into,
+            } => Ok(Item::Does {
+                alive: Vec::from_slice(alloc, alive)?,
+                action: *action,
+                args: Vec::from_slice(alloc, args)?,
+                into: *into,
+            }),
+            Item::Moves { alive, value, way } => Ok(Item::Moves {
+                alive: Vec::from_slice(alloc, alive)?,
+                value: *value,
+                way: *way,
+            }),
+        }
+    }
 }
 
 /// A line of code that names its registers itself.

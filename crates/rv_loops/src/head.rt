@@ -119,7 +119,7 @@ impl Head {
             if !is_straight(item) || before.len() == MOST_BEFORE {
                 return Ok(None);
             }
-            before.push(copy_of(alloc, item)?)?;
+            before.push(item.copied(alloc)?)?;
         }
         Ok(None)
     }
@@ -170,35 +170,12 @@ pub fn copy_of_operands(alloc: Global, operands: &[Operand]) -> Result<Vec<Opera
     }
 }
 
-pub fn copy_of(alloc: Global, item: &Item) -> Result<Item, NoMemory>
-    ensures { IfOk result (λ copy. placed_line_of copy ≡ placed_line_of item.now) }
-{
-    match item {
-        Item::Does {
-            alive,
-            action,
-            args,
-            into,
-        } => Ok(Item::Does {
-            alive: copy_of_listed(alloc, alive)?,
-            action: *action,
-            args: copy_of_operands(alloc, args)?,
-            into: *into,
-        }),
-        Item::Moves { alive, value, way } => Ok(Item::Moves {
-            alive: copy_of_listed(alloc, alive)?,
-            value: *value,
-            way: *way,
-        }),
-    }
-}
-
 /// Adds copies of lines to code.
 pub fn add_copies(alloc: Global, code: &mut Vec<Item>, items: &[Item]) -> Result<(), NoMemory>
     ensures { OnOk result (map placed_line_of code.new.items ≡ map placed_line_of code.old.items ++ map placed_line_of items.now) }
 {
     for item in items {
-        code.push(copy_of(alloc, item)?)?;
+        code.push(item.copied(alloc)?)?;
     }
     Ok(())
 }

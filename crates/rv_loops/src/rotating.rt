@@ -6,7 +6,7 @@ ghost use Rattle.rv_isa.specs.PlacedCode.{does, placed_line_of, placed_lines_of,
 ghost use Rattle.rv_loops.specs.Rotation.{mark, leaves, goes_on, rotated_line, rotated_code, IsRotated, AreRotated};
 ghost use Rattle.rv_loops.specs.Heads.{loop_of};
 
-use crate::head::{AGAIN, Head, add_copies, copy_of, has_label, is_call_of};
+use crate::head::{AGAIN, Head, add_copies, has_label, is_call_of};
 use kk_base::NoMemory;
 use rv_isa::{Action, Item, Placed, PlacedFunction};
 use std::alloc::Global;
@@ -38,7 +38,7 @@ fn add_rotated(
         code.push(head.turned_test(alloc)?)?;
         code.push(bare(alloc, Action::Jump(head.exit)))?;
     } else {
-        code.push(copy_of(alloc, item)?)?;
+        code.push(item.copied(alloc)?)?;
     }
     Ok(())
 }
