@@ -9,3 +9,5 @@ pub mod Sizes
 pub mod Starts
 pub mod Texts
 pub mod Drops
+pub mod Operations
+pub mod World

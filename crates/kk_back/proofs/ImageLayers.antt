@@ -36,8 +36,8 @@ use Rattle.cell_runtime.specs.Sizes.{runtime_words}
 use Rattle.cell_runtime.specs.Layouts.{below_pointer}
 use Rattle.cell_runtime.proofs.AddressReach.{below_most}
 use Rattle.cell_runtime.specs.Texts.{IsText}
-use Rattle.rv_world.specs.Operations.{Constants, all_bytes}
-use Rattle.rv_world.specs.World.{World, first_world, primitives}
+use Rattle.cell_runtime.specs.Operations.{Constants, all_bytes}
+use Rattle.cell_runtime.specs.World.{World, first_world, primitives}
 use Rattle.rv_regs.specs.Valid.{IsValid}
 use Rattle.rv_regs.specs.Shape.{HaveSlotsBelow, IsPlainlyPlaced}
 use Rattle.rv_regs.specs.Relation.{NeverStuck as RegsNeverStuck, StandsFor as RegsStandsFor}

@@ -43,8 +43,8 @@ use Rattle.rv_cells.specs.TokenedFunctions.{most_values_of}
 use Rattle.rv_cells.specs.TokenedLowered.{IsTokenedForm}
 use Rattle.rv_cells.specs.TokenedMeaning.{roomy_outside, IsTokenedLowered, TokenedRunsTheSame}
 use Rattle.rv_place.specs.Images.{outside_lines}
-use Rattle.rv_world.specs.Operations.{Constants, all_bytes}
-use Rattle.rv_world.specs.World.{first_world, primitives}
+use Rattle.cell_runtime.specs.Operations.{Constants, all_bytes}
+use Rattle.cell_runtime.specs.World.{first_world, primitives}
 use Rattle.kk_back.specs.Assembled.{IsPlaceable, IsAsmImage, IsImageOfAsm}
 use Rattle.kk_back.specs.Images.{counted_setting, IsRunnable, IsImageOf, HasOwnAddresses}
 use Rattle.kk_back.specs.FreeCells.{AreAllFree}

@@ -28,8 +28,8 @@ use Rattle.rv_isa.specs.Execution.{rv32im, run}
 use Rattle.rv_isa.specs.Primitives.{stuck}
 use Rattle.rv_isa.specs.Processor.{Processor, can_fetch, start, goes}
 use Rattle.rv_isa.specs.ProcessorMachine.{processor_machine}
-use Rattle.rv_world.specs.Operations.{Constants}
-use Rattle.rv_world.specs.World.{first_world, primitives}
+use Rattle.cell_runtime.specs.Operations.{Constants}
+use Rattle.cell_runtime.specs.World.{first_world, primitives}
 use Rattle.kk_back.specs.Assembled.{IsAsmImage}
 use Rattle.kk_back.specs.Images.{counted_setting, HasHeap, HasOwnAddresses}
 

@@ -21,8 +21,8 @@ use Rattle.rv_loops.proofs.Places.{found_both, found_again}
 use Rattle.rv_place.specs.ProcessorStates.{HasLabel, IsPlain, ArePlain, AllPlain}
 use Rattle.rv_place.proofs.InstructionExecution.{opposite_compares}
 use Rattle.rv_regs.specs.Shape.{IsBelow, HasSlotsBelow, AllSlotsBelow, HaveSlotsBelow}
-use Rattle.rv_world.specs.Operations.{Constants, computed}
-use Rattle.rv_world.specs.World.{World, computed_in, primitives}
+use Rattle.cell_runtime.specs.Operations.{Constants, computed}
+use Rattle.cell_runtime.specs.World.{World, computed_in, primitives}
 
 -- ---- what holds of all lines
 

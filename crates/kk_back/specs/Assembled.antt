@@ -20,8 +20,8 @@ use Rattle.rv_isa.specs.WellFormed.{AreWellFormed}
 use Rattle.rv_place.specs.Images.{EndsWithCells, outside_lines}
 use Rattle.rv_place.specs.ProcessorStates.{HasCells}
 use Rattle.rv_place.specs.Texts.{most_functions}
-use Rattle.rv_world.specs.Operations.{Constants, all_bytes}
-use Rattle.rv_world.specs.World.{World, first_world, primitives}
+use Rattle.cell_runtime.specs.Operations.{Constants, all_bytes}
+use Rattle.cell_runtime.specs.World.{World, first_world, primitives}
 use Rattle.kk_back.specs.Memory.{HasAsmMemory}
 use Rattle.kk_back.specs.Sizes.{FitsText, most_asm_bytes}
 

@@ -15,7 +15,7 @@ use Rattle.rv_isa.specs.Frames.{Frame, empty, put, all_of, received}
 use Rattle.rv_isa.specs.Primitives.{ended, or_stuck}
 use Rattle.cell_runtime.specs.declared.process.Ending.TheVariants as OfEnding
 use Rattle.cell_runtime.specs.Stops.{number_of}
-use Rattle.rv_world.specs.World.{World}
+use Rattle.cell_runtime.specs.World.{World}
 use Rattle.rv_lower.specs.Lines.{acts, copies, temporaries}
 use Rattle.rv_lower.specs.Lowered.{from_to}
 use Rattle.rv_lower.proofs.Calls.{HaveWords, AreLess}

@@ -2,7 +2,7 @@
 use Rattle.std.proofs.Common.{◌≡◌, ◌≢◌, ◌≤◌, ℕ, ◌+◌, ◌*◌, List, [], ◌∷◌, map, Some, None, option_map, true, false, not, cond, refl, sym, ◌∙◌, ap, subst, arith, ne_eqb, bit_and, length}
 use Rattle.rv_isa.specs.declared.asm.Action.TheVariants.{Compute, Label, Jump, Branch, Routine as Calls}
 use Rattle.rv_isa.specs.declared.asm.Condition.{Condition}
-use Rattle.rv_world.specs.Operations.{compares}
+use Rattle.cell_runtime.specs.Operations.{compares}
 use Rattle.rv_isa.specs.declared.asm.ImmediateOperation.TheVariants.{Addi, Andi}
 use Rattle.rv_isa.specs.Arithmetic.{sum_word}
 use Rattle.rv_isa.specs.declared.asm.Operation.{Operation}
@@ -19,7 +19,7 @@ use Rattle.cell_heap.specs.Blocks.{Cells, load, store, dup, release, request, dr
 use Rattle.cell_runtime.specs.declared.process.Ending.TheVariants as OfEnding
 use Rattle.cell_runtime.specs.Stops.{number_of}
 use Rattle.rv_isa.specs.Costs.{operation_instructions}
-use Rattle.rv_world.specs.World.{World, computed_in, with_cells, takes_cell, gives_up, drop_count}
+use Rattle.cell_runtime.specs.World.{World, computed_in, with_cells, takes_cell, gives_up, drop_count}
 use Rattle.rv_lower.proofs.FormEffects.{reads_one, reads_two}
 use Rattle.rv_lower.specs.Lines.{computes, sets, copies_to, acts}
 use Rattle.rv_cells.specs.CellLines.{Loads, Stores}

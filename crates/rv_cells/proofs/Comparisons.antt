@@ -29,7 +29,7 @@ use Rattle.rv_isa.specs.declared.asm.Condition.TheVariants.{Equal as Same, NotEq
 use Rattle.rv_isa.specs.declared.asm.Condition.TheVariants.{GreaterEqual as AtLeast}
 use Rattle.rv_isa.specs.declared.routine.Routine.TheVariants.{Drop}
 use Rattle.rv_isa.specs.AsmCode.{Line}
-use Rattle.rv_world.specs.Operations.{compares}
+use Rattle.cell_runtime.specs.Operations.{compares}
 use Rattle.rv_lower.specs.Lines.{copies_to, acts}
 use Rattle.rv_lower.specs.Lowered.{Goal}
 use Rattle.rv_lower.proofs.Words.{same_word, at_most_follows}

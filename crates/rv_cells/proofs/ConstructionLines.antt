@@ -22,7 +22,7 @@ use Rattle.cell_heap.specs.Pool.{Pool}
 use Rattle.cell_heap.specs.Blocks.{Cells, own, with_block, with_word, nothing, request}
 use Rattle.cell_runtime.specs.declared.process.Ending.TheVariants as OfEnding
 use Rattle.cell_runtime.specs.Stops.{number_of}
-use Rattle.rv_world.specs.World.{World, with_cells}
+use Rattle.cell_runtime.specs.World.{World, with_cells}
 use Rattle.rv_lower.specs.Lines.{sets}
 use Rattle.rv_lower.proofs.Calls.{HaveWords}
 use Rattle.rv_cells.specs.Layout.{Layout, words_in, header_of, FitsField, FitFields}

@@ -18,8 +18,8 @@ use Rattle.std.proofs.lemmas.Bool.{or_cases}
 use Rattle.rv_isa.specs.Primitives.{Turn, stuck, or_stuck}
 use Rattle.rv_isa.specs.Processor.{Ending}
 use Rattle.rv_isa.proofs.Copies.{copy_is, home_is}
-use Rattle.rv_world.specs.Operations.{Constants}
-use Rattle.rv_world.specs.World.{World, primitives}
+use Rattle.cell_runtime.specs.Operations.{Constants}
+use Rattle.cell_runtime.specs.World.{World, primitives}
 use Rattle.rv_cells.proofs.FormArities.{may_be_none, lead}
 
 -- where nothing is stuck, a value that is gone on with is there

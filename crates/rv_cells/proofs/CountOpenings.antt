@@ -23,7 +23,7 @@ use Rattle.rv_isa.specs.AsmCode.{Line}
 use Rattle.rv_isa.specs.AsmMachine.{is_label}
 use Rattle.rv_isa.specs.Frames.{Frame, found}
 use Rattle.cell_heap.specs.Blocks.{Cells, own, with_block, with_word}
-use Rattle.rv_world.specs.World.{World, with_cells}
+use Rattle.cell_runtime.specs.World.{World, with_cells}
 use Rattle.rv_lower.specs.Lines.{computes, sets, acts}
 use Rattle.rv_cells.specs.Layout.{word_in, words_in, header_of}
 use Rattle.rv_cells.specs.CountedCells.{AreFrom, Owner, cell_of, in_hand, IsCellOf, with_owner, is_aside}

@@ -26,7 +26,7 @@ use Rattle.rv_isa.specs.declared.immediate.Immediate.{Immediate}
 use Rattle.rv_isa.specs.declared.routine.Routine.TheVariants.{Take, Drop}
 use Rattle.rv_isa.specs.AsmMachine.{AsmTurn, asm_machine, asm_start}
 use Rattle.rv_isa.specs.Processor.{Ending, exited}
-use Rattle.rv_world.specs.World.{World, first_world, primitives}
+use Rattle.cell_runtime.specs.World.{World, first_world, primitives}
 use Rattle.rv_isa.specs.AsmCode.{Line, Lines}
 use Rattle.rv_lower.specs.Lines.{computes, sets, copies_to, acts}
 use Rattle.rv_lower.specs.Lowered.{returns}

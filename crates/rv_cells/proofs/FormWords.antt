@@ -20,7 +20,7 @@ use Rattle.rv_isa.specs.AsmMachine.{AsmTurn}
 use Rattle.rv_isa.specs.Frames.{Frame}
 use Rattle.rv_isa.specs.Primitives.{go}
 use Rattle.cell_runtime.specs.Prints.{put_of}
-use Rattle.rv_world.specs.World.{World}
+use Rattle.cell_runtime.specs.World.{World}
 use Rattle.rv_lower.proofs.Words.{same_word, signed_fits, truth_word}
 use Rattle.rv_lower.proofs.WordValues.{IsWordOf, turn_at}
 use Rattle.rv_lower.proofs.FormEffects as Performing

@@ -30,7 +30,7 @@ use Rattle.rv_isa.specs.Primitives.{ended}
 use Rattle.cell_heap.specs.Blocks.{nothing}
 use Rattle.cell_runtime.specs.Stops.{number_of}
 use Rattle.cell_runtime.specs.declared.process.Ending.TheVariants as OfEnding
-use Rattle.rv_world.specs.World.{World, with_cells}
+use Rattle.cell_runtime.specs.World.{World, with_cells}
 use Rattle.rv_lower.proofs.FormEffects.{put_other}
 use Rattle.rv_cells.specs.Layout.{header_of}
 use Rattle.rv_cells.specs.CountedCells.{Owner, cell_of, in_hand, is_aside, with_owner, assign}

@@ -10,7 +10,7 @@ use Rattle.rv_isa.specs.Primitives.{ended}
 use Rattle.cell_heap.specs.Blocks.{Cells, nothing, request}
 use Rattle.cell_runtime.specs.declared.process.Ending.TheVariants as OfEnding
 use Rattle.cell_runtime.specs.Stops.{number_of}
-use Rattle.rv_world.specs.World.{with_cells}
+use Rattle.cell_runtime.specs.World.{with_cells}
 use Rattle.rv_lower.proofs.FormEffects.{put_same, put_other}
 use Rattle.rv_cells.specs.Layout.{header_of}
 use Rattle.rv_cells.specs.CountedCells.{Owner, nobody, in_hand, kept_aside, cell_of, Follows, with_owner, is_aside, set_aside}

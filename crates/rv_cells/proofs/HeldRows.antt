@@ -6,7 +6,7 @@ use Rattle.rv_isa.specs.AsmCode.{Line}
 use Rattle.rv_isa.specs.Frames.{Frame, is_among}
 use Rattle.cell_heap.specs.Blocks.{Cells, past_links}
 use Rattle.kk_counted.specs.Heaps.{Heap}
-use Rattle.rv_world.specs.World.{World, with_cells}
+use Rattle.cell_runtime.specs.World.{World, with_cells}
 use Rattle.rv_lower.specs.Lines.{acts}
 use Rattle.rv_cells.specs.Layout.{Layout}
 use Rattle.rv_cells.specs.CountedCells.{Owner, in_hand, kept_aside, Follows, with_owner}

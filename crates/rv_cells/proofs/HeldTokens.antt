@@ -9,7 +9,7 @@ use Rattle.rv_isa.specs.Frames.{Frame, put, top, top_in, top_taken, taken_in, is
 use Rattle.rv_isa.specs.Primitives.{or_stuck, by_token}
 use Rattle.cell_heap.specs.Blocks.{Cells, request}
 use Rattle.cell_heap.specs.Blocks as OfBlocks
-use Rattle.rv_world.specs.World.{World, with_cells, takes_cell, on_cells}
+use Rattle.cell_runtime.specs.World.{World, with_cells, takes_cell, on_cells}
 use Rattle.rv_lower.proofs.FormEffects.{reads_one}
 use Rattle.rv_lower.specs.Lines.{acts}
 use Rattle.rv_cells.proofs.Runs.{Target, left_at, turn_of, Runs, line_runs, silent}

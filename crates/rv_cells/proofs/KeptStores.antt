@@ -9,7 +9,7 @@ use Rattle.rv_isa.specs.Numbers.{cell_words}
 use Rattle.rv_isa.specs.AsmCode.{Line}
 use Rattle.rv_isa.specs.Frames.{Frame}
 use Rattle.cell_heap.specs.Blocks.{Cells, own, with_block, with_word}
-use Rattle.rv_world.specs.World.{World, with_cells}
+use Rattle.cell_runtime.specs.World.{World, with_cells}
 use Rattle.rv_lower.proofs.Calls.{HaveWords}
 use Rattle.rv_cells.specs.Layout.{Layout, word_in, words_in}
 use Rattle.rv_cells.specs.CountedCells.{AreFrom, Owner}

@@ -35,7 +35,7 @@ use Rattle.rv_lower.specs.Lines.{copies_to, acts}
 use Rattle.rv_isa.specs.AsmMachine.{AsmState, AsmTurn}
 use Rattle.rv_isa.specs.LinePlaces.{AsmIsAt}
 use Rattle.rv_isa.specs.Primitives.{go, stuck}
-use Rattle.rv_world.specs.World.{World}
+use Rattle.cell_runtime.specs.World.{World}
 use Rattle.rv_cells.specs.Fitting.{IsFit}
 use Rattle.rv_cells.specs.CountedCells.{Owner, Follows}
 use Rattle.rv_cells.specs.FormLines.{ComesToItsLines, FollowsEachState}

@@ -19,8 +19,8 @@ use Rattle.rv_isa.specs.AsmCode.{Line}
 use Rattle.rv_isa.specs.Frames.{Frame, put}
 use Rattle.rv_isa.specs.AsmMachine.{AsmTurn}
 use Rattle.rv_isa.specs.Processor.{Ending}
-use Rattle.rv_world.specs.Operations.{compares}
-use Rattle.rv_world.specs.World.{World}
+use Rattle.cell_runtime.specs.Operations.{compares}
+use Rattle.cell_runtime.specs.World.{World}
 use Rattle.rv_lower.specs.Lines.{computes, sets, acts}
 use Rattle.rv_lower.proofs.Labels.{found_label}
 use Rattle.rv_lower.proofs.FormEffects.{put_same, put_other}

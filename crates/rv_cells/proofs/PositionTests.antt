@@ -11,8 +11,8 @@ use Rattle.rv_isa.specs.AsmMachine.{is_label}
 use Rattle.rv_lower.specs.Lines.{sets, acts}
 use Rattle.rv_isa.specs.AsmCode.{Line}
 use Rattle.rv_isa.specs.Frames.{Frame, found}
-use Rattle.rv_world.specs.Operations.{compares}
-use Rattle.rv_world.specs.World.{World}
+use Rattle.cell_runtime.specs.Operations.{compares}
+use Rattle.cell_runtime.specs.World.{World}
 use Rattle.rv_cells.specs.Layout.{Layout, word_in, words_in}
 use Rattle.rv_cells.specs.CountedCells.{AreFrom, Owner, Follows}
 use Rattle.rv_cells.specs.CellLines.{Loads, Walks, walked}

@@ -13,8 +13,8 @@ use Rattle.rv_isa.specs.Costs.{instructions_of, line_moves}
 use Rattle.rv_isa.specs.Frames.{Frame, all_of, top}
 use Rattle.rv_isa.specs.Primitives.{Primitives, go, ended, stuck, or_stuck}
 use Rattle.cell_heap.specs.Pool.{Pool}
-use Rattle.rv_world.specs.Operations.{Constants}
-use Rattle.rv_world.specs.World.{World, primitives}
+use Rattle.cell_runtime.specs.Operations.{Constants}
+use Rattle.cell_runtime.specs.World.{World, primitives}
 
 -- the assembler's machine of a program: its constants, its cells, the depth, and its functions
 pub record Target : Type 0 where

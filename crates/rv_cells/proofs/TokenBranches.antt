@@ -31,8 +31,8 @@ use Rattle.rv_isa.specs.AsmCode.{Line}
 use Rattle.rv_isa.specs.AsmMachine.{AsmTurn}
 use Rattle.rv_isa.specs.Frames.{Frame}
 use Rattle.rv_isa.specs.Processor.{Ending}
-use Rattle.rv_world.specs.World.{World}
-use Rattle.rv_world.specs.Operations.{compares}
+use Rattle.cell_runtime.specs.World.{World}
+use Rattle.cell_runtime.specs.Operations.{compares}
 use Rattle.rv_lower.specs.Lines.{copies_to, acts}
 use Rattle.rv_cells.specs.declared.compare.Branching.{Branching}
 use Rattle.rv_cells.specs.ComparisonBranch.{branch_unless, branch_of, names, names_behind, arms_name_behind}

@@ -17,7 +17,7 @@ use Rattle.kk_counted.specs.TokenedCodes.{Tokened}
 use Rattle.kk_counted.specs.Tokens.{Tokens, is_linked, marked}
 use Rattle.rv_isa.specs.AsmCode.{Line}
 use Rattle.rv_isa.specs.Frames.{Frame}
-use Rattle.rv_world.specs.World.{World, with_cells}
+use Rattle.cell_runtime.specs.World.{World, with_cells}
 use Rattle.rv_cells.specs.CountedCells.{Owner}
 use Rattle.rv_cells.specs.CellLines.{dup_lines, drop_lines}
 use Rattle.rv_cells.specs.TokenedLines.{CodeLines, HasSlots, Keeps}

@@ -22,7 +22,7 @@ use Rattle.kk_counted.specs.TokenedCodes.{Tokened, TokenedArms, TokenedFunction,
 use Rattle.kk_counted.specs.declared.shape.Shape.{Shape}
 use Rattle.rv_isa.specs.AsmCode.{Lines}
 use Rattle.rv_isa.specs.Costs.{functions_length}
-use Rattle.rv_world.specs.Operations.{all_bytes}
+use Rattle.cell_runtime.specs.Operations.{all_bytes}
 use Rattle.rv_cells.specs.Layout.{IsNarrow}
 use Rattle.rv_cells.specs.Tables.{table_of, layout_in}
 use Rattle.rv_cells.specs.TokenedLowered.{IsTokenedForm}

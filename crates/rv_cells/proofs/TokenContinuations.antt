@@ -24,7 +24,7 @@ use Rattle.rv_isa.specs.AsmMachine.{AsmTurn}
 use Rattle.rv_isa.specs.Frames.{Frame}
 use Rattle.rv_isa.specs.Processor.{Ending}
 use Rattle.rv_isa.specs.WellFormed.{AreLinesFormed}
-use Rattle.rv_world.specs.World.{World}
+use Rattle.cell_runtime.specs.World.{World}
 use Rattle.rv_lower.proofs.Orders.{split_at}
 use Rattle.rv_cells.specs.TokenedLines.{CodeLines, HasSlots, Keeps}
 use Rattle.rv_cells.proofs.Runs.{turn_of, Runs}

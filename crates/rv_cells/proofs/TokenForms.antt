@@ -5,7 +5,7 @@ use Rattle.rv_isa.specs.declared.asm.Action.TheVariants.{Compute}
 use Rattle.rv_isa.specs.declared.asm.Operation.TheVariants as Op
 use Rattle.rv_isa.specs.AsmCode.{Line}
 use Rattle.rv_isa.specs.Frames.{Frame}
-use Rattle.rv_world.specs.World.{with_cells}
+use Rattle.cell_runtime.specs.World.{with_cells}
 use Rattle.rv_lower.specs.Lines.{sets, copies_to, acts}
 use Rattle.rv_cells.specs.CountedCells.{nobody, in_hand, with_owner}
 use Rattle.cell_heap.specs.Blocks.{Cells}

@@ -17,7 +17,7 @@ use Rattle.rv_lower.specs.declared.lowering.Lowering.{Lowering}
 use Rattle.rv_lower.specs.Lowered.{returns, from_to}
 use Rattle.rv_lower.specs.Written.{lines_written, texts_written}
 use Rattle.rv_lower.proofs.CodeGrowth.{all_bytes_append}
-use Rattle.rv_world.specs.Operations.{all_bytes}
+use Rattle.cell_runtime.specs.Operations.{all_bytes}
 use Rattle.rv_cells.specs.Layout.{layout_of}
 use Rattle.rv_cells.specs.Marking.{function_marks}
 use Rattle.rv_cells.specs.Tables.{table_of, layout_in}

@@ -14,7 +14,7 @@ use Rattle.rv_isa.specs.AsmCode.{Line}
 use Rattle.rv_isa.specs.Frames.{Frame, is_among as is_out}
 use Rattle.cell_heap.specs.Blocks.{past_links}
 use Rattle.kk_counted.specs.Spending.{AreApart}
-use Rattle.rv_world.specs.World.{with_cells}
+use Rattle.cell_runtime.specs.World.{with_cells}
 use Rattle.rv_lower.specs.Lines.{acts}
 use Rattle.rv_cells.specs.CountedCells.{in_hand, kept_aside, with_owner}
 use Rattle.rv_cells.proofs.Counts.{put_aside, taken_back}

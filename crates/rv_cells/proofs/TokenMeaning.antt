@@ -30,7 +30,7 @@ use Rattle.rv_isa.specs.AsmCode.{Lines}
 use Rattle.rv_isa.specs.AsmMachine.{AsmTurn, asm_start}
 use Rattle.rv_isa.specs.Primitives.{ended}
 use Rattle.cell_heap.specs.Pool.{Pool}
-use Rattle.rv_world.specs.World.{World, first_world}
+use Rattle.cell_runtime.specs.World.{World, first_world}
 use Rattle.rv_cells.specs.Layout.{Layout}
 use Rattle.rv_cells.specs.Fitting.{IsFit}
 use Rattle.rv_cells.specs.Meaning.{setting_on, AreFree}

@@ -11,7 +11,7 @@ use Rattle.rv_isa.specs.AsmCode.{Line}
 use Rattle.rv_isa.specs.AsmMachine.{is_label}
 use Rattle.rv_isa.specs.Frames.{Frame, put, found}
 use Rattle.cell_heap.specs.Blocks.{Cells}
-use Rattle.rv_world.specs.World.{World, with_cells}
+use Rattle.cell_runtime.specs.World.{World, with_cells}
 use Rattle.rv_lower.specs.Lines.{sets, copies_to, acts}
 use Rattle.rv_lower.proofs.FormEffects.{put_same, put_other}
 use Rattle.rv_cells.specs.Layout.{words_in, header_of}

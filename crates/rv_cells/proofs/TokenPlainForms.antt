@@ -29,7 +29,7 @@ use Rattle.rv_isa.specs.Arithmetic.{signed}
 use Rattle.rv_isa.specs.AsmCode.{Line}
 use Rattle.rv_isa.specs.Frames.{Frame, put}
 use Rattle.cell_runtime.specs.Prints.{put_of}
-use Rattle.rv_world.specs.World.{World, told_more}
+use Rattle.cell_runtime.specs.World.{World, told_more}
 use Rattle.rv_lower.specs.Lines.{unit_word}
 use Rattle.rv_lower.proofs.Words.{truth_word}
 use Rattle.rv_lower.proofs.PrintCosts.{some_digits, some_piece}

@@ -31,7 +31,7 @@ use Rattle.rv_isa.specs.Frames.{Frame}
 use Rattle.rv_isa.specs.Primitives.{ended, stuck as stuck_turn}
 use Rattle.rv_isa.specs.WellFormed.{AreLinesFormed}
 use Rattle.cell_heap.specs.Pool.{Pool}
-use Rattle.rv_world.specs.World.{World}
+use Rattle.cell_runtime.specs.World.{World}
 use Rattle.rv_lower.specs.Lines.{Texts, copies_to, acts}
 use Rattle.rv_lower.specs.Lowered.{Goal, returns, joins}
 use Rattle.rv_lower.proofs.Labels.{found_label, label_found}

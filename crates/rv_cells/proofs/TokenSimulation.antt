@@ -21,7 +21,7 @@ use Rattle.rv_isa.specs.AsmCode.{Line, Lines}
 use Rattle.rv_isa.specs.AsmMachine.{AsmTurn, asm_entered, asm_start}
 use Rattle.rv_isa.specs.Frames.{Frame, empty}
 use Rattle.rv_isa.specs.Primitives.{ended, stuck as stuck_turn, end_of}
-use Rattle.rv_world.specs.World.{World, first_world}
+use Rattle.cell_runtime.specs.World.{World, first_world}
 use Rattle.rv_lower.specs.Lowered.{returns}
 use Rattle.rv_cells.specs.CountedCells.{nobody}
 use Rattle.rv_cells.specs.TokenedLines.{IsFunctionOf}

@@ -13,7 +13,7 @@ use Rattle.rv_isa.specs.declared.asm.Operation.TheVariants as Op
 use Rattle.rv_isa.specs.AsmCode.{Line}
 use Rattle.rv_isa.specs.Frames.{Frame}
 use Rattle.rv_lower.specs.Lines.{sets, acts}
-use Rattle.rv_world.specs.World.{World, with_cells}
+use Rattle.cell_runtime.specs.World.{World, with_cells}
 use Rattle.rv_cells.specs.CountedCells.{Owner, nobody, is_aside, with_owner}
 use Rattle.rv_cells.proofs.CellActions.{put_in}
 use Rattle.rv_cells.proofs.Owners.{chosen_same, chosen_other}

@@ -9,7 +9,7 @@ use Rattle.rv_isa.specs.Numbers.{cell_words}
 use Rattle.rv_isa.specs.AsmCode.{Line}
 use Rattle.rv_isa.specs.Frames.{Frame, put}
 use Rattle.cell_heap.specs.Blocks.{Cells, own, with_block, with_word}
-use Rattle.rv_world.specs.World.{World, with_cells}
+use Rattle.cell_runtime.specs.World.{World, with_cells}
 use Rattle.rv_lower.specs.Lines.{sets}
 use Rattle.rv_lower.proofs.Calls.{HaveWords}
 use Rattle.rv_lower.proofs.FormEffects.{put_same, put_other}

@@ -14,7 +14,7 @@ use Rattle.rv_isa.specs.AsmCode.{Lines}
 use Rattle.rv_isa.specs.AsmMachine.{AsmState, asm_machine, asm_start}
 use Rattle.rv_isa.specs.LinePlaces.{AsmIsAt, AsmHasOwnLine}
 use Rattle.rv_isa.specs.Primitives.{go}
-use Rattle.rv_world.specs.World.{World, first_world, primitives}
+use Rattle.cell_runtime.specs.World.{World, first_world, primitives}
 use Rattle.rv_cells.specs.CountedCells.{Owner, Follows}
 use Rattle.rv_cells.specs.Layout.{Layout}
 use Rattle.rv_cells.specs.Meaning.{setting_on}

@@ -10,7 +10,7 @@ use Rattle.kk_counted.specs.declared.shape.Shape.{Shape}
 use Rattle.rv_isa.specs.AsmCode.{Lines}
 use Rattle.rv_lower.specs.Lowered.{returns, from_to}
 use Rattle.rv_lower.specs.Written.{most_print}
-use Rattle.rv_world.specs.Operations.{all_bytes}
+use Rattle.cell_runtime.specs.Operations.{all_bytes}
 use Rattle.rv_cells.specs.declared.standing.Standing.{Standing}
 use Rattle.rv_cells.specs.Marking.{function_marks}
 use Rattle.rv_cells.specs.Tables.{table_of, layout_in}

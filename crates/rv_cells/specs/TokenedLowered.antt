@@ -5,7 +5,7 @@ use Rattle.kk_counted.specs.TokenedWords.{all_tokened_prints}
 use Rattle.kk_counted.specs.declared.shape.Shape.{Shape}
 use Rattle.rv_isa.specs.AsmCode.{Lines}
 use Rattle.rv_lower.specs.Written.{most_print, texts_of}
-use Rattle.rv_world.specs.Operations.{all_bytes}
+use Rattle.cell_runtime.specs.Operations.{all_bytes}
 use Rattle.rv_cells.specs.Tables.{table_of, layout_in}
 use Rattle.rv_cells.specs.TokenedLines.{AreFunctionsOf}
 

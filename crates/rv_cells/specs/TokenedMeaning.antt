@@ -22,7 +22,7 @@ use Rattle.rv_isa.specs.AsmMachine.{asm_machine, asm_start}
 use Rattle.rv_isa.specs.Primitives.{ended, stuck}
 use Rattle.rv_isa.specs.WellFormed.{AreWellFormed}
 use Rattle.cell_heap.specs.Pool.{Pool}
-use Rattle.rv_world.specs.World.{World, first_world, primitives}
+use Rattle.cell_runtime.specs.World.{World, first_world, primitives}
 use Rattle.rv_cells.specs.Layout.{Layout, IsNarrow}
 use Rattle.rv_cells.specs.Meaning.{setting_on, AreFree}
 use Rattle.rv_cells.specs.TokenedLines.{AreFunctionsOf}

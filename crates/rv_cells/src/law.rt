@@ -42,7 +42,7 @@ ghost use Rattle.rv_cells.specs.Tables.{table_of, layout_in};
 ghost use Rattle.rv_lower.specs.Written.{most_print};
 ghost use Rattle.rv_isa.specs.Costs.{functions_length};
 ghost use Rattle.rv_isa.specs.ValueBounds.{HaveValuesBelow};
-ghost use Rattle.rv_world.specs.Operations.{all_bytes};
+ghost use Rattle.cell_runtime.specs.Operations.{all_bytes};
 
 /// At the start the cells of a pool hold the empty heap. It is a law, and does nothing.
 pub fn unused_cells_hold_no_heap()

@@ -1,7 +1,7 @@
 -- Code that grows: the lines and the texts of parts make those of the whole.
 use Rattle.std.proofs.Common.{◌≡◌, ℕ, ◌+◌, ◌≤◌, List, [], ◌∷◌, ◌++◌, length, refl, sym, ap, ◌∙◌, arith, append_assoc, append-nil, length-append}
 use Rattle.rv_isa.specs.AsmCode.{Line}
-use Rattle.rv_world.specs.Operations.{all_bytes}
+use Rattle.cell_runtime.specs.Operations.{all_bytes}
 use Rattle.rv_lower.specs.declared.lowering.Lowering.{Lowering}
 use Rattle.rv_lower.specs.Written.{lines_written, texts_written, Wrote, TookLabel, Grows}
 

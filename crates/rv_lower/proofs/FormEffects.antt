@@ -32,8 +32,8 @@ use Rattle.rv_isa.specs.AsmMachine.{AsmTurn, asm_served}
 use Rattle.rv_isa.specs.Frames.{Frame, put, all_of}
 use Rattle.rv_isa.specs.Primitives.{Reply, answers}
 use Rattle.cell_runtime.specs.Prints.{put_of}
-use Rattle.rv_world.specs.Operations.{computed}
-use Rattle.rv_world.specs.World.{World, told_more, print_bytes, read_next}
+use Rattle.cell_runtime.specs.Operations.{computed}
+use Rattle.cell_runtime.specs.World.{World, told_more, print_bytes, read_next}
 use Rattle.rv_lower.specs.Lines.{computes, sets, copies_to, acts, registers, unit_word, MakesTruth, Compares, ComparesNot, BinaryLines, choice_of, PrintLines}
 use Rattle.rv_lower.proofs.Words.{truth_word, divided, sum_follows, difference_follows, product_follows, negation_follows, quotient_follows, remainder_follows, remainder_fits, sum_fits, difference_fits, product_fits, truth_follows, not_follows, opposite_follows, equal_follows, unequal_follows, at_most_follows}
 use Rattle.rv_lower.proofs.PrintCosts.{int_printed, few_steps_of, text_found}

@@ -13,8 +13,8 @@ use Rattle.rv_isa.specs.Arithmetic.{signed}
 use Rattle.rv_isa.specs.Processor.{Ending}
 use Rattle.rv_isa.specs.Primitives.{Reply, answers, fails}
 use Rattle.cell_runtime.specs.Prints.{int_piece, int_count}
-use Rattle.rv_world.specs.Operations.{all_bytes, address_in, bytes_at}
-use Rattle.rv_world.specs.World.{World, told_more, print_int}
+use Rattle.cell_runtime.specs.Operations.{all_bytes, address_in, bytes_at}
+use Rattle.cell_runtime.specs.World.{World, told_more, print_int}
 use Rattle.rv_lower.specs.Lines.{choice_of}
 use Rattle.rv_lower.proofs.Words.{signed_fits}
 use Rattle.kk_source.specs.FormEffects.{piece_of}

@@ -15,8 +15,8 @@ use Rattle.rv_isa.specs.Costs.{operation_instructions, instructions_of, line_mov
 use Rattle.rv_isa.specs.Frames.{Frame, put, put_into, all_of, top}
 use Rattle.rv_isa.specs.Primitives.{Primitives, go, ended, stuck, or_stuck}
 use Rattle.cell_heap.specs.Pool.{Pool}
-use Rattle.rv_world.specs.Operations.{Constants, computed}
-use Rattle.rv_world.specs.World.{World, primitives, computed_in}
+use Rattle.cell_runtime.specs.Operations.{Constants, computed}
+use Rattle.cell_runtime.specs.World.{World, primitives, computed_in}
 use Rattle.rv_lower.specs.Lines.{computes}
 use Rattle.rv_lower.proofs.WordValues.{Function, frame_at, turn_at}
 

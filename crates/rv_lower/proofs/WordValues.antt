@@ -9,7 +9,7 @@ use Rattle.rv_isa.specs.AsmCode.{Line}
 use Rattle.rv_isa.specs.AsmMachine.{AsmTurn}
 use Rattle.rv_isa.specs.Frames.{Frame}
 use Rattle.rv_isa.specs.Primitives.{go}
-use Rattle.rv_world.specs.World.{World}
+use Rattle.cell_runtime.specs.World.{World}
 use Rattle.rv_lower.specs.Lines.{unit_word}
 use Rattle.rv_lower.proofs.Words.{truth_word}
 

@@ -4,7 +4,7 @@ use Rattle.kk_base.specs.Limits.{greatest_string}
 use Rattle.kk_syntax.specs.declared.program.Form.{Form}
 use Rattle.kk_syntax.specs.declared.program.Form.TheVariants.{PrintText}
 use Rattle.rv_isa.specs.AsmCode.{Line, line_of}
-use Rattle.rv_world.specs.Operations.{all_bytes}
+use Rattle.cell_runtime.specs.Operations.{all_bytes}
 use Rattle.rv_lower.specs.declared.lowering.Reads.{Reads}
 use Rattle.rv_lower.specs.declared.lowering.Reads.TheVariants.{Nothing, One, Two}
 use Rattle.rv_lower.specs.declared.lowering.Short.{Short}

@@ -16,7 +16,7 @@ use Rattle.rv_isa.specs.Frames.{all_of}
 use Rattle.rv_isa.specs.PlacedMachine.{read_at, passed}
 use Rattle.rv_isa.specs.Processor.{Processor, value}
 use Rattle.rv_isa.specs.Standing.{Code, Stands}
-use Rattle.rv_world.specs.Operations.{Constants, register_word, immediate_word, shift_word, holds, computed}
+use Rattle.cell_runtime.specs.Operations.{Constants, register_word, immediate_word, shift_word, holds, computed}
 use Rattle.rv_place.specs.Registers.{zero_register}
 use Rattle.rv_place.specs.Instructions.{form_of, words_of_form, SetsBy, words_of_operation, LoadsWord, words_of_branch, Computes}
 use Rattle.rv_place.specs.declared.reach.Forms.{Forms}

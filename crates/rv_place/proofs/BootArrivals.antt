@@ -23,7 +23,7 @@ use Rattle.rv_isa.proofs.Runs.{Leads-run}
 use Rattle.cell_heap.specs.Pool.{Pool}
 use Rattle.cell_runtime.specs.Lines.{words_of}
 use Rattle.cell_runtime.specs.Sizes.{runtime_words}
-use Rattle.rv_world.specs.World.{World, first_world, primitives}
+use Rattle.cell_runtime.specs.World.{World, first_world, primitives}
 use Rattle.rv_place.specs.declared.words.Words.{Words}
 use Rattle.rv_place.specs.Addresses.{words_of_lines, forms_of, entry_words}
 use Rattle.rv_place.specs.LineAddresses.{line_address}

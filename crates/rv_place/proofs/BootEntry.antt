@@ -16,8 +16,8 @@ use Rattle.cell_heap.specs.Blocks.{unused_cells}
 use Rattle.cell_heap.specs.ProgramMemory.{HoldsCells}
 use Rattle.cell_heap.proofs.Frames.{SameInside, SameInside-store}
 use Rattle.cell_heap.proofs.Blocks.{outside-holds}
-use Rattle.rv_world.specs.World.{World, first_world}
-use Rattle.rv_world.specs.Operations.{all_bytes}
+use Rattle.cell_runtime.specs.World.{World, first_world}
+use Rattle.cell_runtime.specs.Operations.{all_bytes}
 use Rattle.rv_place.specs.Addresses.{takes_frame, words_of_shift, words_to_frame, entry_words, frame_bias}
 use Rattle.rv_place.specs.Lines.{Map, EntersAt, PassesAt, BeginsAt, FunctionAt}
 use Rattle.rv_place.specs.declared.reach.Reach.{Reach}

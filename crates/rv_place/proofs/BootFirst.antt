@@ -11,7 +11,7 @@ use Rattle.rv_isa.specs.Standing.{Stands}
 use Rattle.rv_isa.proofs.Standing.{Stands-code_of}
 use Rattle.cell_heap.specs.Pool.{IsUsable}
 use Rattle.cell_runtime.specs.Texts.{pool_of}
-use Rattle.rv_world.specs.Operations.{all_bytes}
+use Rattle.cell_runtime.specs.Operations.{all_bytes}
 use Rattle.rv_place.specs.declared.words.Words.{Words}
 use Rattle.rv_place.specs.Texts.{ArePlaceable, text_words, map_of, ArePlacedWords}
 use Rattle.rv_place.specs.Bytes.{IsTextOf}

@@ -26,7 +26,7 @@ use Rattle.cell_heap.proofs.FreeCells.{free_list-lists}
 use Rattle.rv_isa.proofs.ProcessorMachines.{state-run}
 use Rattle.cell_heap.specs.ProgramMemory.{HoldsCells}
 use Rattle.cell_runtime.proofs.Blocks.{start_holds}
-use Rattle.rv_world.specs.World.{World, first_world, primitives}
+use Rattle.cell_runtime.specs.World.{World, first_world, primitives}
 use Rattle.rv_place.specs.declared.words.Words.{Words}
 use Rattle.rv_isa.specs.FrameSizes.{frame_size}
 use Rattle.rv_place.specs.Addresses.{jump_words, takes_frame, words_of_functions, frame_bias, entries_from}

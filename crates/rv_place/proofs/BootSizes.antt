@@ -10,7 +10,7 @@ use Rattle.rv_isa.specs.declared.placed.Placed.{Placed}
 use Rattle.rv_isa.specs.Costs.{action_length, placed_line_length, placed_code_length, placed_functions_length}
 use Rattle.rv_isa.specs.Sizes.{wide_frame}
 use Rattle.rv_isa.specs.PlacedCode.{PlacedLine, does, moves, PlacedLines, placed_functions, placed_constants}
-use Rattle.rv_world.specs.Operations.{all_bytes}
+use Rattle.cell_runtime.specs.Operations.{all_bytes}
 use Rattle.rv_place.specs.declared.words.Words.{Words}
 use Rattle.rv_place.specs.Addresses.{is_silent, words_of_action, words_of_line, words_of_lines, words_of_functions, forms_of, words_of_shift}
 use Rattle.rv_place.specs.declared.reach.Forms.{Forms}

@@ -36,8 +36,8 @@ use Rattle.cell_heap.proofs.Blocks.{mapped, own-inside, own-no_free, own-usable,
 use Rattle.cell_heap.proofs.Blocks.{store-holds, release-holds}
 use Rattle.cell_runtime.specs.Registers.{IsOutside}
 use Rattle.cell_runtime.proofs.DropRows.{bit_of_word}
-use Rattle.rv_world.specs.Operations.{Constants, computed}
-use Rattle.rv_world.specs.World.{World, with_cells, changes, computed_in, primitives}
+use Rattle.cell_runtime.specs.Operations.{Constants, computed}
+use Rattle.cell_runtime.specs.World.{World, with_cells, changes, computed_in, primitives}
 use Rattle.rv_place.specs.Registers.{zero_register, ra, s0}
 use Rattle.rv_place.specs.Instructions.{words_of_operation, RaisesCount, FreesToken, Computes}
 use Rattle.rv_place.specs.Lines.{Map, register_into, ActsAt}

@@ -34,7 +34,7 @@ use Rattle.rv_isa.proofs.Runs.{run-zero, Leads-none, Leads-then, Leads-each}
 use Rattle.rv_isa.proofs.Standing.{Stands-leads}
 use Rattle.rv_isa.proofs.Instructions.{value-put_same, value-put_other, leads-sets, leads-to, leads-lw, leads-sw, leads-jal, leads-jalr}
 use Rattle.cell_runtime.specs.Registers.{IsOutside}
-use Rattle.rv_world.specs.Operations.{register_word, immediate_word, shift_word, compares}
+use Rattle.cell_runtime.specs.Operations.{register_word, immediate_word, shift_word, compares}
 use Rattle.rv_place.specs.Instructions.{register_instruction, immediate_instruction, shift_instruction, branch_instruction}
 
 -- ---- the table

@@ -16,7 +16,7 @@ use Rattle.rv_isa.specs.Bytes.{number_at, with_number}
 use Rattle.rv_isa.specs.Processor.{Processor, value, can_load, can_store}
 use Rattle.rv_isa.specs.Standing.{Code, Stands}
 use Rattle.rv_isa.specs.Opposites.{opposite}
-use Rattle.rv_world.specs.Operations.{compares}
+use Rattle.cell_runtime.specs.Operations.{compares}
 use Rattle.rv_place.specs.Registers.{zero_register, ra, sp, t0, s3}
 use Rattle.rv_place.specs.Addresses.{words_of_shift, words_to_frame, entry_words, frame_bias}
 use Rattle.rv_place.specs.Instructions.{branch_instruction, LoadsWord, words_of_jump, JumpsFar, JumpsBy, words_of_branch, BranchesFar, BranchesOn}

@@ -29,9 +29,9 @@ use Rattle.cell_heap.proofs.Frames.{SameInside, SameInside-store}
 use Rattle.cell_heap.proofs.Blocks.{outside-holds}
 use Rattle.cell_runtime.specs.Calls.{Exits}
 use Rattle.cell_runtime.specs.Registers.{IsOutside}
-use Rattle.rv_world.specs.Operations.{holds}
+use Rattle.cell_runtime.specs.Operations.{holds}
 use Rattle.cell_heap.specs.Pool.{Pool}
-use Rattle.rv_world.specs.World.{World, primitives}
+use Rattle.cell_runtime.specs.World.{World, primitives}
 use Rattle.rv_place.specs.Registers.{zero_register, ra, s3}
 use Rattle.rv_place.specs.Addresses.{words_of_shift, words_of_lines, words_to_frame, label_address, takes_frame, frames_taken, entry_words, test_words, skipped_words, frame_bias}
 use Rattle.rv_place.specs.Instructions.{words_of_jump, JumpsTo, CallsTo, words_of_branch, BranchesOn}

@@ -19,7 +19,7 @@ use Rattle.cell_heap.specs.ProgramMemory.{HoldsCells}
 use Rattle.cell_runtime.specs.Registers.{IsOutside}
 use Rattle.std.specs.List.{list_any}
 use Rattle.cell_heap.specs.Pool.{Pool}
-use Rattle.rv_world.specs.World.{World, with_cells, primitives}
+use Rattle.cell_runtime.specs.World.{World, with_cells, primitives}
 use Rattle.rv_place.specs.Addresses.{takes_frame, frame_bias}
 use Rattle.rv_place.specs.Lines.{Map}
 use Rattle.rv_place.specs.Grounds.{Ground, stack_end, constant_bytes}

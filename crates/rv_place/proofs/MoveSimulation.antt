@@ -30,11 +30,11 @@ use Rattle.rv_isa.proofs.Memory.{word-apart}
 use Rattle.cell_heap.specs.ProgramMemory.{HoldsCells, SameRoots}
 use Rattle.cell_heap.proofs.Frames.{SameInside, SameInside-store}
 use Rattle.cell_heap.proofs.Blocks.{outside-holds}
-use Rattle.rv_world.specs.Operations.{Constants, computed}
+use Rattle.cell_runtime.specs.Operations.{Constants, computed}
 use Rattle.cell_heap.specs.Blocks.{load}
 use Rattle.cell_heap.specs.Pool.{Pool}
 use Rattle.cell_heap.proofs.Blocks.{mapped}
-use Rattle.rv_world.specs.World.{World, computed_in, primitives}
+use Rattle.cell_runtime.specs.World.{World, computed_in, primitives}
 use Rattle.rv_place.specs.Registers.{zero_register, sp}
 use Rattle.rv_place.specs.Addresses.{is_same_register, stands_there, gives_idly, is_silent, has_slot, takes_frame, frame_bias, slot_offset}
 use Rattle.rv_place.specs.Instructions.{form_of, words_of_form, words_of_operation}

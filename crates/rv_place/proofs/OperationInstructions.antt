@@ -13,7 +13,7 @@ use Rattle.rv_isa.specs.declared.asm.ImmediateOperation.{ImmediateOperation}
 use Rattle.rv_isa.specs.declared.asm.ShiftOperation.{ShiftOperation}
 use Rattle.rv_isa.specs.declared.placed.Operand.{Operand}
 use Rattle.rv_isa.specs.Standing.{Code}
-use Rattle.rv_world.specs.Operations.{Constants, address_in}
+use Rattle.cell_runtime.specs.Operations.{Constants, address_in}
 use Rattle.rv_place.specs.Instructions.{Zero, LoadsWord, form_of, SetsBy, words_of_form, SetsWord, words_of_constant, RaisesCount, FreesToken, Computes, register_instruction, immediate_instruction, shift_instruction, words_of_operation}
 use Rattle.rv_place.specs.declared.chart.Chart.{Chart}
 use Rattle.rv_place.specs.declared.reach.WordForm.{WordForm}

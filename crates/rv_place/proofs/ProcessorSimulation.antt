@@ -19,7 +19,7 @@ use Rattle.rv_isa.specs.ProcessorMachine.{processor_machine}
 use Rattle.rv_isa.specs.Execution.{rv32im}
 use Rattle.rv_isa.specs.Standing.{Code}
 use Rattle.cell_heap.specs.Pool.{Pool}
-use Rattle.rv_world.specs.World.{World, primitives}
+use Rattle.cell_runtime.specs.World.{World, primitives}
 use Rattle.rv_place.specs.Addresses.{is_silent, words_of_action, words_of_line}
 use Rattle.rv_place.specs.Lines.{Map, ReturnsBy}
 use Rattle.rv_place.specs.declared.reach.Forms.{Forms}

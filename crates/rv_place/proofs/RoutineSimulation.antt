@@ -48,10 +48,10 @@ use Rattle.cell_runtime.proofs.Blocks.{word_kept, TakenBlock, of_free, of_link, 
 use Rattle.cell_runtime.specs.Registers.{IsOutside, own_of, KeptBy}
 use Rattle.cell_runtime.specs.Calls.{IsAt, HasWayBack, Returns, KeepsOutside, Exits}
 use Rattle.cell_runtime.specs.Prints.{put_of, buffer_bytes, int_piece, int_count, TakesNext}
-use Rattle.rv_world.specs.Operations.{Constants, all_bytes}
-use Rattle.rv_world.specs.Operations as OfConstants
+use Rattle.cell_runtime.specs.Operations.{Constants, all_bytes}
+use Rattle.cell_runtime.specs.Operations as OfConstants
 use Rattle.cell_heap.specs.Pool.{Pool}
-use Rattle.rv_world.specs.World.{World, with_cells, primitives, told_more, takes_cell, gives_up, drop_count, print_bytes, read_next, served, lasts}
+use Rattle.cell_runtime.specs.World.{World, with_cells, primitives, told_more, takes_cell, gives_up, drop_count, print_bytes, read_next, served, lasts}
 use Rattle.rv_place.specs.Registers.{ra}
 use Rattle.rv_place.specs.Instructions.{words_of_jump, CallsTo}
 use Rattle.rv_place.specs.Addresses.{takes_frame, frame_bias}

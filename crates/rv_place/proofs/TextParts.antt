@@ -17,7 +17,7 @@ use Rattle.rv_isa.specs.PlacedCode.{PlacedLines, placed_functions}
 use Rattle.rv_isa.specs.Sizes.{narrow_frame}
 use Rattle.rv_isa.specs.Standing.{Has, code_of}
 use Rattle.rv_isa.proofs.Standing.{Has-back, code_of-Has, code_of-get}
-use Rattle.rv_world.specs.Operations.{address_in}
+use Rattle.cell_runtime.specs.Operations.{address_in}
 use Rattle.rv_place.specs.Instructions.{LoadsWord}
 use Rattle.rv_isa.specs.FrameSizes.{frame_size}
 use Rattle.rv_place.specs.Addresses.{words_of_function, words_of_functions, entry_words, jump_words, reach_of, entries_from}

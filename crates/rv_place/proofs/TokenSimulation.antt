@@ -37,7 +37,7 @@ use Rattle.cell_runtime.specs.Registers.{IsOutside}
 use Rattle.cell_runtime.specs.Calls.{KeepsOutside}
 use Rattle.cell_runtime.proofs.TokenHolds.{linked, linked-outside, memory_held, memory_with, newest_below}
 use Rattle.cell_runtime.proofs.Blocks.{token_view, held_holds, unheld_holds}
-use Rattle.rv_world.specs.World.{World, with_cells, on_cells, primitives}
+use Rattle.cell_runtime.specs.World.{World, with_cells, on_cells, primitives}
 use Rattle.rv_place.specs.Registers.{zero_register, ra, sp, s1}
 use Rattle.rv_place.specs.Addresses.{takes_frame, slot_offset}
 use Rattle.rv_place.specs.Instructions.{HoldsToken, UnholdsToken}

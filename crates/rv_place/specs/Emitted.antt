@@ -21,7 +21,7 @@ use Rattle.rv_isa.specs.PlacedCode.{PlacedLine, PlacedLines}
 use Rattle.rv_isa.specs.Standing.{Code, Has}
 use Rattle.cell_runtime.specs.Lines.{Spells}
 use Rattle.cell_runtime.specs.Lines as OfRuntime
-use Rattle.rv_world.specs.Operations.{address_in}
+use Rattle.cell_runtime.specs.Operations.{address_in}
 use Rattle.rv_place.specs.Addresses.{words_of_action, words_of_shift, words_of_line, words_of_lines, words_of_function}
 use Rattle.rv_place.specs.Addresses.{words_of_functions, branch_words, jump_words, entry_words, entries_from, slot_offset}
 use Rattle.rv_place.specs.Addresses.{IsBehind, label_address}

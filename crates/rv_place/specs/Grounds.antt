@@ -17,7 +17,7 @@ use Rattle.cell_runtime.specs.Stops.{IsStop}
 use Rattle.cell_runtime.specs.Takes.{IsTake}
 use Rattle.cell_runtime.specs.Drops.{IsDrop}
 use Rattle.cell_heap.specs.Pool.{Pool, end_of}
-use Rattle.rv_world.specs.Operations.{all_bytes}
+use Rattle.cell_runtime.specs.Operations.{all_bytes}
 use Rattle.rv_place.specs.Addresses.{frames_taken, frame_bias}
 use Rattle.rv_place.specs.Lines.{Map, IsSymbolAt, FunctionsAt}
 

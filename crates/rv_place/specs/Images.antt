@@ -15,7 +15,7 @@ use Rattle.cell_heap.specs.Pool.{Pool}
 use Rattle.cell_heap.specs.Blocks.{seen_cells}
 use Rattle.cell_heap.specs.FreeCells.{ListsFree}
 use Rattle.cell_runtime.specs.Texts.{IsText}
-use Rattle.rv_world.specs.World.{World}
+use Rattle.cell_runtime.specs.World.{World}
 use Rattle.rv_place.specs.declared.words.Words.{Words}
 use Rattle.rv_isa.specs.FrameSizes.{frame_size}
 use Rattle.rv_place.specs.Texts.{ArePlaceable, ArePlacedWords}

@@ -21,7 +21,7 @@ use Rattle.rv_isa.specs.declared.immediate.ShiftAmount.{ShiftAmount}
 use Rattle.rv_isa.specs.Arithmetic.{sum_word}
 use Rattle.rv_isa.specs.Opposites.{opposite}
 use Rattle.rv_isa.specs.Standing.{Code, Has}
-use Rattle.rv_world.specs.Operations.{Constants, address_in}
+use Rattle.cell_runtime.specs.Operations.{Constants, address_in}
 use Rattle.rv_place.specs.declared.reach.WordForm.{WordForm}
 use Rattle.rv_place.specs.declared.reach.WordForm.TheVariants.{Short, Upper, Both}
 use Rattle.rv_place.specs.declared.reach.Reach.{Reach}

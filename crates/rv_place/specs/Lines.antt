@@ -22,7 +22,7 @@ use Rattle.rv_isa.specs.PlacedMachine.{only_slot}
 use Rattle.rv_isa.specs.Arithmetic.{sum_word}
 use Rattle.rv_isa.specs.Sizes.{reach_down}
 use Rattle.rv_isa.specs.Standing.{Code, Has}
-use Rattle.rv_world.specs.Operations.{Constants}
+use Rattle.cell_runtime.specs.Operations.{Constants}
 use Rattle.rv_place.specs.Instructions.{Zero, words_of_jump, JumpsTo, CallsTo, BranchesOn, HoldsToken, UnholdsToken, Computes}
 use Rattle.rv_place.specs.Addresses.{is_silent, words_of_line, words_of_shift, words_to_frame, label_address, forms_of}
 use Rattle.rv_place.specs.Addresses.{entry_words, skipped_words, takes_frame, frame_bias, slot_offset, IsBehind}

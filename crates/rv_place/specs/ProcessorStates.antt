@@ -24,7 +24,7 @@ use Rattle.cell_heap.specs.View.{Link}
 use Rattle.cell_heap.specs.Blocks.{Cells}
 use Rattle.cell_heap.specs.ProgramMemory.{HoldsCells}
 use Rattle.cell_runtime.specs.Sizes.{runtime_words}
-use Rattle.rv_world.specs.World.{World, primitives}
+use Rattle.cell_runtime.specs.World.{World, primitives}
 use Rattle.rv_place.specs.Addresses.{words_of_lines, forms_of, entry_words, takes_frame, frame_bias, slot_offset}
 use Rattle.rv_place.specs.Lines.{Map, LinesAt}
 use Rattle.rv_place.specs.Registers.{ra}

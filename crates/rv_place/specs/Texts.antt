@@ -12,7 +12,7 @@ use Rattle.rv_isa.specs.Standing.{code_of}
 use Rattle.cell_runtime.specs.Lines.{Spells, AreWithin, words_of, labels_of}
 use Rattle.cell_heap.specs.Pool.{Pool}
 use Rattle.cell_runtime.specs.Texts.{pool_of, greatest_reach}
-use Rattle.rv_world.specs.Operations.{Constants, all_bytes}
+use Rattle.cell_runtime.specs.Operations.{Constants, all_bytes}
 use Rattle.rv_isa.specs.FrameSizes.{frame_size}
 use Rattle.rv_place.specs.Addresses.{reach_of, jump_words, words_of_functions, entries_from, frames_taken, frame_bias}
 use Rattle.rv_place.specs.Lines.{Map, FunctionsAt}

@@ -12,7 +12,7 @@ ghost use Rattle.rv_isa.specs.Processor.{Processor, goes};
 ghost use Rattle.rv_isa.specs.ProcessorMachine.{processor_machine};
 ghost use Rattle.elf_image.specs.Program.{text_start};
 ghost use Rattle.cell_runtime.specs.Sizes.{runtime_words};
-ghost use Rattle.rv_world.specs.World.{World, first_world, primitives};
+ghost use Rattle.cell_runtime.specs.World.{World, first_world, primitives};
 ghost use Rattle.rv_place.specs.declared.words.Words.{Words};
 ghost use Rattle.rv_place.specs.Images.{first_processor, IsPlacedImage};
 ghost use Rattle.rv_place.specs.LineAddresses.{line_address};

@@ -13,7 +13,7 @@ ghost use Rattle.rv_isa.specs.Processor.{Ending, goes};
 ghost use Rattle.rv_isa.specs.ProcessorMachine.{processor_machine};
 ghost use Rattle.elf_image.specs.Program.{text_start};
 ghost use Rattle.cell_runtime.specs.Sizes.{runtime_words};
-ghost use Rattle.rv_world.specs.World.{World, first_world, primitives};
+ghost use Rattle.cell_runtime.specs.World.{World, first_world, primitives};
 ghost use Rattle.rv_place.specs.declared.words.Words.{Words};
 ghost use Rattle.rv_place.specs.Images.{first_processor, outside_lines, IsPlacedImage, EndsWithCells};
 ghost use Rattle.rv_place.specs.ProcessorStates.{NeverStuck};

@@ -8,7 +8,7 @@ ghost use Rattle.rv_isa.specs.Execution.{rv32im};
 ghost use Rattle.rv_isa.specs.ProcessorMachine.{processor_machine};
 ghost use Rattle.rv_isa.specs.Standing.{Code};
 ghost use Rattle.cell_heap.specs.Pool.{Pool};
-ghost use Rattle.rv_world.specs.World.{primitives};
+ghost use Rattle.cell_runtime.specs.World.{primitives};
 ghost use Rattle.rv_place.specs.declared.words.Words.{Words};
 ghost use Rattle.rv_place.specs.Bytes.{IsTextOf};
 ghost use Rattle.rv_place.specs.Lines.{Map};

@@ -4,7 +4,7 @@ ghost use Rattle.std.specs.Prelude.{◌≡◌, ◌+◌, ◌*◌, ◌^◌, ◌<�
 ghost use Rattle.elf_image.specs.Program.{text_start};
 ghost use Rattle.rv_isa.specs.Costs.{placed_functions_length};
 ghost use Rattle.rv_isa.specs.PlacedCode.{placed_lines_of, placed_functions};
-ghost use Rattle.rv_world.specs.Operations.{all_bytes};
+ghost use Rattle.cell_runtime.specs.Operations.{all_bytes};
 ghost use Rattle.cell_runtime.specs.Lines.{Spells, words_of};
 ghost use Rattle.rv_place.specs.Addresses.{entries_from, frames_taken};
 ghost use Rattle.cell_runtime.specs.Lines.{AreWithin};

@@ -1,5 +1,5 @@
 use Rattle.std.proofs.Common.{◌≡◌, ◌+◌, ◌++◌, length, drop}
-use Rattle.rv_world.specs.Operations.{all_bytes}
+use Rattle.cell_runtime.specs.Operations.{all_bytes}
 use Rattle.rv_place.specs.Emitted.{addresses_from}
 use Rattle.rv_place.proofs.text.constant_addresses.Given as goal
 

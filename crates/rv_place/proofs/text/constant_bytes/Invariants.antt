@@ -1,5 +1,5 @@
 use Rattle.std.proofs.Common.{◌≡◌, ◌++◌, drop}
-use Rattle.rv_world.specs.Operations.{all_bytes}
+use Rattle.cell_runtime.specs.Operations.{all_bytes}
 use Rattle.rv_place.proofs.text.constant_bytes.Given as goal
 
 abbrev pub invariant-loop-text : goal.invariant-loop-text

@@ -3,7 +3,7 @@ use Rattle.elf_image.specs.Program.{text_start}
 use Rattle.rv_isa.specs.declared.placed.Native.{Native}
 use Rattle.rv_isa.specs.declared.placed.PlacedFunction.{PlacedFunction}
 use Rattle.rv_isa.specs.PlacedCode.{placed_lines_of, placed_functions}
-use Rattle.rv_world.specs.Operations.{all_bytes}
+use Rattle.cell_runtime.specs.Operations.{all_bytes}
 use Rattle.cell_runtime.specs.Lines.{Spells, words_of}
 use Rattle.rv_place.specs.Addresses.{words_of_functions}
 use Rattle.rv_place.specs.Texts.{jumps_of, map_of}

@@ -17,7 +17,7 @@ use Rattle.cell_runtime.specs.declared.process.Ending.TheVariants as OfEnding
 use Rattle.cell_runtime.specs.Drops.{most_drop_cost}
 use Rattle.cell_runtime.specs.Prints.{int_piece, int_count, put_of}
 use Rattle.cell_runtime.specs.Stops.{number_of}
-use Rattle.rv_world.specs.Operations.{Constants, computed, holds, bytes_at}
+use Rattle.cell_runtime.specs.Operations.{Constants, computed, holds, bytes_at}
 
 -- what is left of the input, what was done on the outside so far, and the cells
 pub record World : Type 0 where
