@@ -53,7 +53,8 @@ module _ (positions : PositionTable) (marks : CellMarks) (holds : ℕ → ℕ �
         counts = λ code environment joins here name.
             omega (
               arith,
-              counts_few positions marks holds setting weight input most (greatest_of Fields) spent fits marked spends few deep n code environment joins
+              counts_few positions marks holds setting weight input most (greatest_of Fields) spent fits marked spends few deep n
+                  code environment joins
                   here
                   name,
               mul-le-mul_right most shallow,

@@ -228,7 +228,8 @@ module _ (setting : Setting) (marks : CellMarks) (result : Bool) (variables slot
       subst Below (sym lines_are)
       (lines_joined most own more
       (count_below most setting.base setting.holds low (low + 1) x fields used
-      (token_ends is.0 x (variables + y) (low + 1) (low + 2)) (sets 0 (variables + y) ∷ []) own (omega (arith, base_is)) (variable_less x less)
+      (token_ends is.0 x (variables + y) (low + 1) (low + 2)) (sets 0 (variables + y) ∷ []) own (omega (arith, base_is))
+      (variable_less x less)
       (fields_below variables most fields variables_le below)
       (ends_below most is.0 x (variables + y) (low + 1) (low + 2) (variable_less x less) (slot_less y few)
       (may_fill_less is.0 y rest bound is.1 numbered))

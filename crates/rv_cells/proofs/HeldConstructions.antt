@@ -292,7 +292,8 @@ module _ (program : Lowering) (code : Tokened) (x c first : ℕ) (arguments kept
         cells = cells;
         stand = none_stands program.layout at.shape.standing to.address to.owners (after.slots n) others a.unspent a.holds
             judged.slots_are a.all_are;
-        slots_are = slots_moved {later = later one} {others = f.cells} slots_there (λ z r is. grown_stays size one r s.address (old n z r is))
+        slots_are = slots_moved {later = later one} {others = f.cells} slots_there (λ z r is. grown_stays size one r s.address
+            (old n z r is))
             (λ z low unspent. made.3 (v + z) (omega (arith, low)) (λ e. let under = a.variable in omega (arith, e, under)));
         held_is = made.2.held ∙ holds_none ∙ sym (ap (held_values (after.slots n) v) a.none_held);
         waits = all_carried program s.address size (later one) (suc size) after.slots at.lists.older frames gs at.shape.result

@@ -267,14 +267,16 @@ module _ (setting : Setting) (variables : ℕ) where
         absurd (false_not (act_here (bare (Tokened.open_cell x c fields used y rest)) act is does))
     way_there left goal low (Tokened.open_cell x c fields used y rest) own high lines (zero ∷ way) act is does =
         reaches_behind (tree_behind setting variables left goal low (Tokened.open_cell x c fields used y rest) own high lines)
-        (step_behind goal low x c fields used y rest own high lines) way (opening_part goal low x c fields used y rest own high lines)
+        (step_behind goal low x c fields used y rest own high lines) way (opening_part goal low x c fields used y rest own high
+        lines)
         (way_there None goal (low + 2) rest lines.1 high lines.3 way act is does)
     way_there left goal low (Tokened.open_cell x c fields used y rest) own high lines (suc n ∷ way) act is does = cc is
     way_there left goal low (Tokened.if_unique x c fields used y rest) own high lines [] act is does =
         absurd (false_not (act_here (bare (Tokened.if_unique x c fields used y rest)) act is does))
     way_there left goal low (Tokened.if_unique x c fields used y rest) own high lines (zero ∷ way) act is does =
         reaches_behind (tree_behind setting variables left goal low (Tokened.if_unique x c fields used y rest) own high lines)
-        (step_behind goal low x c fields used y rest own high lines) way (opening_part goal low x c fields used y rest own high lines)
+        (step_behind goal low x c fields used y rest own high lines) way (opening_part goal low x c fields used y rest own high
+        lines)
         (way_there None goal (low + 2) rest lines.1 high lines.3 way act is does)
     way_there left goal low (Tokened.if_unique x c fields used y rest) own high lines (suc n ∷ way) act is does = cc is
     way_there left goal low (Tokened.dup x rest) own high lines [] act is does =

@@ -254,7 +254,8 @@ module _ (program : Lowering) (x c a : ℕ) (more : List ℕ) (rest : Tokened) (
         cells = cells_are;
         stand = none_stands program.layout at.shape.standing to.address to.owners (after.slots n) [] at.lists.unspent tt
             judged.slots_are (λ z is. at.judged.spends.0.1.1 z ∙ is);
-        slots_are = slots_moved {later = later one} {others = frame.cells} slots_are (λ z r is. grown_stays size one r s.address (old n z r is))
+        slots_are = slots_moved {later = later one} {others = frame.cells} slots_are (λ z r is. grown_stays size one r s.address
+            (old n z r is))
             (λ z low unspent. spared z low);
         held_is = held_same ∙ holds_none ∙ sym (ap (held_values (after.slots n) v) none_holds);
         waits = all_carried program s.address size (later one) (suc size) after.slots at.lists.older frames gs at.shape.result

@@ -218,7 +218,8 @@ module _ (program : Lowering) where
       → Follows_step program idle (token_at program code s.environment inner frames s.heap tokens input)
       (turn_of left s.frame fs s.world)
   behind_step (Tokened.drop y rest) idle inner frames tokens input s fs left is idle_is fit =
-      drop_idle y rest inner frames tokens input s is.lists is.ahead.0 is.judged fit idle fs left idle_is (inr (near_here program rest inner frames tokens input s fs left is.follows
+      drop_idle y rest inner frames tokens input s is.lists is.ahead.0 is.judged fit idle fs left idle_is (inr
+      (near_here program rest inner frames tokens input s fs left is.follows
       (inl (record {
         x = is.x;
         arms = is.arms;
@@ -514,7 +515,8 @@ module _ (program : Lowering) (x : ℕ) (operator : BinaryOperator) (a b : ℕ) 
         → At program next inner frames tokens input later_spot fs behind
     stands_there next lines next_stands marked numbered has keeps short judged =
         at_other program
-        (Tokened.compute x (Binary operator) (a ∷ b ∷ []) others (drops_before ys (Tokened.case x truth_decisions arms))) inner frames
+        (Tokened.compute x (Binary operator) (a ∷ b ∷ []) others (drops_before ys
+        (Tokened.case x truth_decisions arms))) inner frames
         tokens input s fs left at next behind later_spot.environment s.frame.cells
         (record {
           before = ((at.does.placed.before ++ parts.choice) ++ stands.before) ++ (label ∷ []);

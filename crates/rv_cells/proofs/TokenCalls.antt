@@ -347,7 +347,8 @@ module _ (program : Lowering) where
               kind = p.marked.1.0.1;
               nothing = p.keeps.0;
               does = does_behind program code inner frames tokens input s fs left at rest p.lines.0 p.lines.1 p.lines.2 p.lines.5
-                  (record { way = 0 ∷ []; is_part = inl refl; code_is = refl }) s.frame.whole refl place (x ∷ s.bound) (within_one x s.bound)
+                  (record { way = 0 ∷ []; is_part = inl refl; code_is = refl }) s.frame.whole refl place (x ∷ s.bound)
+                  (within_one x s.bound)
                   p.marked.1.1 p.numbered.1.1 p.has.1 p.keeps.1.1 (omega arith);
               has = record {
                 values = has_row at.has.values ws;

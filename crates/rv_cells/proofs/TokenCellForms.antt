@@ -120,7 +120,8 @@ module _ (program : Lowering) where
         → GoesTo program code inner frames tokens input s fs left at rest own more at.does.placed.low lines
         → HasMark program.marks at.shape.holds at.shape.result s.bound at.does.given (bare rest)
         → AreNumbered at.shape.variables s.bound (bare rest) → HasSlots at.shape.slots rest → Keeps at.shape.standing rest
-        → token_code_step (setting program) code s.environment inner (machine_at program code s.environment inner frames s.heap tokens)
+        → token_code_step (setting program) code s.environment inner (machine_at program code s.environment inner frames s.heap
+        tokens)
         ≡ goes (machine_at program rest s.environment inner frames heap tokens)
         → is_quiet code ≡ false → ((next : Lists) → ListsAfter code inner at.lists next → next ≡ at.lists)
         → most ≤ (upper program).weight (token_at program code s.environment inner frames s.heap tokens input)
@@ -129,7 +130,8 @@ module _ (program : Lowering) where
         keeps step loud stay cheap less short =
         let kept = subst (AllLead (AreKeptBy program.pool.cells (ListsAfter code inner at.lists))) step
         (kept_after program code inner frames tokens input s fs left at (fit 0).keeps loud) in
-        goes_did idle fit rest own more (record s { heap = heap; frame = frame; owners = owners; world = world }) s.bound most goes did
+        goes_did idle fit rest own more (record s { heap = heap; frame = frame; owners = owners; world = world }) s.bound most goes
+        did
         refl long recounted parts at.does.placed.low lines part_is (within_itself s.bound) (within_itself s.bound) at.has.below
         marked_is numbered has keeps
         (subst (λ (l : Lists). IsJudged program.pool.cells l.left l.unspent l.held l.older rest inner frames heap tokens)
@@ -153,7 +155,8 @@ module _ (program : Lowering) where
       goes_counted code inner frames tokens input s fs left at idle fit rest (dup_lines at.shape.holds x) p.lines.0 next.0 s.frame
       done.0 (with_cells s.world done.1) (most_moves + 5) done.2
       (dup_length (value_of s.environment x) s.heap next.0 next.1) (dup_cells (value_of s.environment x) s.heap next.0 next.1)
-      p.lines.2 p.lines.1 (record { way = 0 ∷ []; is_part = inl refl; code_is = refl }) p.marked.1 p.numbered p.has p.keeps step refl
+      p.lines.2 p.lines.1 (record { way = 0 ∷ []; is_part = inl refl; code_is = refl }) p.marked.1 p.numbered p.has p.keeps step
+      refl
       (λ lists is. is) (omega arith) (omega (arith, idle_is)) (omega arith)
 
   pub at_drop : (x : ℕ) (rest : Tokened) → CodeSteps program (Tokened.drop x rest)
@@ -168,8 +171,10 @@ module _ (program : Lowering) where
       let step : token_code_step (setting program) code s.environment inner from
       ≡ goes (machine_at program rest s.environment inner frames next.0 tokens) = ap (λ o. goes (to_heap o from there)) next.1 in
       let few = p.short in
-      goes_counted code inner frames tokens input s fs left at idle fit rest (drop_lines (at.shape.variables + at.shape.slots) at.shape.holds x) p.lines.0
+      goes_counted code inner frames tokens input s fs left at idle fit rest (drop_lines
+      (at.shape.variables + at.shape.slots) at.shape.holds x) p.lines.0
       next.0 done.0 done.1 (with_cells s.world done.2) (2 * most_moves + 16) done.3
       (drop_length (value_of s.environment x) s.heap next.0 next.1) (drop_cells (value_of s.environment x) s.heap next.0 next.1)
-      p.lines.2 p.lines.1 (record { way = 0 ∷ []; is_part = inl refl; code_is = refl }) p.marked.1 p.numbered p.has p.keeps step refl
+      p.lines.2 p.lines.1 (record { way = 0 ∷ []; is_part = inl refl; code_is = refl }) p.marked.1 p.numbered p.has p.keeps step
+      refl
       (λ lists is. is) (omega arith) (omega (arith, idle_is)) (omega arith)

@@ -158,7 +158,8 @@ step_before : {a b : Lowering} (facts : Facts) (variables : ℕ) (move : Tokened
     → Grows 0 lines a b
     → ((rest : Tokened) → tokened_prints (put_tokened move rest) ≡ tokened_prints rest)
     → ((later : List (List ℕ)) (goal : Goal) (rest : Tokened) (more : List Line) (high : ℕ)
-    → CodeLines (setting_in facts a.base (texts_written b ++ later)) variables goal b.next_label (plug_tokened behind rest) more high
+    → CodeLines (setting_in facts a.base (texts_written b ++ later)) variables goal b.next_label
+    (plug_tokened behind rest) more high
     → CodeLines (setting_in facts a.base (texts_written b ++ later)) variables goal a.next_label
     (put_tokened move (plug_tokened behind rest)) (lines ++ more) high)
     → WroteTokenedSteps facts variables (move ∷ []) behind a b
@@ -192,7 +193,8 @@ opens_before : {a b : Lowering} (facts : Facts) (variables x c : ℕ) (fields us
     (behind : List TokenedMove) → ((rest : Tokened) → MayFill into y (plug_tokened behind rest))
     → (wrote : WroteOpening facts.holds x fields used (variables + y) into a b)
     → (later : List (List ℕ)) (goal : Goal) (rest : Tokened) (more : List Line) (high : ℕ)
-    → CodeLines (setting_in facts a.base (texts_written b ++ later)) variables goal b.next_label (plug_tokened behind rest) more high
+    → CodeLines (setting_in facts a.base (texts_written b ++ later)) variables goal b.next_label
+    (plug_tokened behind rest) more high
     → CodeLines (setting_in facts a.base (texts_written b ++ later)) variables goal a.next_label
     (Tokened.open_cell x c fields used y (plug_tokened behind rest)) (wrote.lines ++ more) high
 opens_before facts variables x c fields used y into behind may wrote later goal rest more high is = (

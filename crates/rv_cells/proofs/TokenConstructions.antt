@@ -86,7 +86,8 @@ at_asked program x c a more other others rest idle inner frames tokens input s f
       among = λ z is. sym (at.judged.spends.0.1.1 z) ∙ is;
       all_are = λ z is. at.judged.spends.0.1.1 z ∙ is;
       values = values;
-      making = making_of program x c a more named rest inner frames tokens input s fs left at (put_in x 0 s.frame) (fit 0).bare.sound.older;
+      making = making_of program x c a more named rest inner frames tokens input s fs left at (put_in x 0 s.frame)
+          (fit 0).bare.sound.older;
       has_values = has_other at.has.values x 0 (not_bound x s.bound p.numbered.1.0);
       slots_are = slots_moved at.has.tokens (λ z q is. refl)
           (λ z few unspent. put_other x (v + z) 0 s.frame.cells (λ e. omega (arith, e, below)));

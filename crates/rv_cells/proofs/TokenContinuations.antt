@@ -92,7 +92,8 @@ module _ (program : Lowering) where
       record { machine = machine_at code environment inner frames heap tokens; input = input }
 
   -- The lines that are left from a spot on do the step of the machine with tokens at a code.
-  abbrev pub StepsOn : ℕ → Tokened → List TokenJoin → List TokenFrame → Tokens → List ℕ → Spot → List (Frame Line) → List Line → Type 0
+  abbrev pub StepsOn : ℕ → Tokened → List TokenJoin → List TokenFrame → Tokens → List ℕ → Spot → List (Frame Line) → List Line
+      → Type 0
   StepsOn idle code inner frames tokens input s fs left =
       Follows_step program idle (token_at code s.environment inner frames s.heap tokens input) (turn_of left s.frame fs s.world)
 
@@ -118,8 +119,8 @@ module _ (program : Lowering) where
       ⊎ (GivesUp program code inner frames tokens input s fs left ⊎ IsFilling program code inner frames tokens input s fs left)
       → IsNear program code s.environment inner (machine_at code s.environment inner frames s.heap tokens) input
       (turn_of left s.frame fs s.world)
-  near_here code inner frames tokens input s fs left follows near =
-      record { spot = s; fs = fs; left = left; environment_is = refl; heap_is = refl; turn_is = refl; follows = follows; near = near }
+  near_here code inner frames tokens input s fs left holds is =
+      record { spot = s; fs = fs; left = left; environment_is = refl; heap_is = refl; turn_is = refl; follows = holds; near = is }
 
   -- an action as the world sees it
   abbrev pub seen_action : Action TokenConfiguration → List ℕ → List Event × TokenState
@@ -189,10 +190,14 @@ module _ (program : Lowering) where
     pub at_other : (next : Tokened) (there : List Line) (environment : Environment) (values : ℕ → Option ℕ)
         → Placed program at.shape at.does.goal at.does.given s.bound s.frame.whole next there
         → IsJudged program.pool.cells at.lists.left at.lists.unspent at.lists.held at.lists.older next inner frames s.heap tokens
-        → HasValues program.layout s.address at.shape.holds (at.shape.variables + at.shape.slots) (length s.heap) s.bound environment
+        → HasValues program.layout s.address at.shape.holds (at.shape.variables + at.shape.slots)
+        (length s.heap) s.bound environment
         values
         → HaveSlotValues s.address (tokens.slots (length at.lists.older)) at.shape.variables at.shape.slots values
-        → At program next inner frames tokens input (record s { environment = environment; frame = record s.frame { cells = values } })
+        → At program next inner frames tokens input (record s {
+          environment = environment;
+          frame = record s.frame { cells = values };
+        })
         fs there
     at_other next there environment values placed judged has_values slots_are = record {
       shape = at.shape;

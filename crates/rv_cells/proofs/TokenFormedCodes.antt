@@ -297,7 +297,8 @@ module _ (layout : Layout) (holds : ℕ → Bool) (texts : Texts) (standing : St
 
   -- an opening, before the code behind it
   opening_fits : (x c : ℕ) (fields used : List ℕ) (y : ℕ) (rest : Tokened) (bound outer unspent left held : List ℕ) (goal : Goal)
-      (low high : ℕ) (lines : List Line) → (is : CodeLines setting variables goal low (Tokened.open_cell x c fields used y rest) lines
+      (low high : ℕ) (lines : List Line) → (is : CodeLines setting variables goal low
+      (Tokened.open_cell x c fields used y rest) lines
       high) → HasRoom variables bound → held ≡ [] → is_among bound x ≡ true
       → AreNumbered variables bound (bare (Tokened.open_cell x c fields used y rest)) → y < slots
       → HeldFits [] (reads (y ∷ unspent) (fields ++ bound)) (reads left outer) goal (low + 2) high is.1
@@ -311,7 +312,8 @@ module _ (layout : Layout) (holds : ℕ → Bool) (texts : Texts) (standing : St
       (fits_token_unique (variables + slots) (reads unspent bound) (reads left outer) (has_room unspent bound has) holds x
       (variable_there variables slots unspent bound x there) fields used (below_more variables slots fields numbered.0.0)
       (variables + y) (omega (arith, few)) goal low high opening.0 own more opening.2
-      (λ made into_is. fill_begins made y rest (subst (λ into. MayFill into y rest) into_is opening.1) (fields ++ bound) goal (low + 2)
+      (λ made into_is. fill_begins made y rest (subst (λ into. MayFill into y rest) into_is opening.1) (fields ++ bound) goal
+      (low + 2)
       high more is.3 numbered.1)
       (fits_weaker (variables + slots) (reads (y ∷ unspent) (fields ++ bound))
       ((variables + y) ∷ bound_list fields (reads unspent bound)) (reads left outer) goal (low + 2) high more

@@ -158,7 +158,8 @@ module _ (program : Lowering) where
   }
 
   -- the same slots, by what they have
-  abbrev pub waits_at : {address : ℕ → ℕ} {next : ℕ} {slots others : ℕ → Slot} {held : List ℕ} {waiting : TokenFrame} {f : Frame Line}
+  abbrev pub waits_at : {address : ℕ → ℕ} {next : ℕ} {slots others : ℕ → Slot} {held : List ℕ} {waiting : TokenFrame} {f : Frame
+      Line}
       {awaited : Bool} → Waits program address next slots held waiting f awaited → ((y : ℕ) → slots y ≡ others y)
       → Waits program address next others held waiting f awaited
   waits_at {address} {next} {slots} {others} {held} {waiting} {f} {awaited} w equal =

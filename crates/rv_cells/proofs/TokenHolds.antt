@@ -100,7 +100,8 @@ module _ (program : Lowering) (y : ℕ) (rest : Tokened) where
           ∙ held_out slots v y at.lists.held at.judged.spends.1.0 in
           let value : s.frame.cells (v + y) ≡ Some 0 = subst (λ slot. SlotIs s.address slot (s.frame.cells (v + y))) empty
           (at.has.tokens.are y) in
-          let step = tokens_step program (Tokened.hold y rest) inner frames tokens input s fs left at rest (λ f. holds_slot f y tokens) tokens
+          let step = tokens_step program (Tokened.hold y rest) inner frames tokens input s fs left at rest
+          (λ f. holds_slot f y tokens) tokens
           (by_null program.pool.cells None (Some tokens) (λ q. hold_link n y tokens) n y tokens empty) in
           let kept = kept_quiet program (Tokened.hold y rest) inner frames tokens input s fs left at
           (machine_at program rest s.environment inner frames s.heap tokens) step refl in
@@ -147,7 +148,8 @@ module _ (program : Lowering) (y : ℕ) (rest : Tokened) where
           let after : Tokens = record tokens { chain = links } in
           let free : is_linked n y tokens.chain ≡ false = ap (is_linked n y) at.judged.are.chain
           ∙ not_linked tokens.slots at.lists.held at.lists.older y at.judged.spends.1.0 in
-          let step = tokens_step program (Tokened.hold y rest) inner frames tokens input s fs left at rest (λ f. holds_slot f y tokens) after
+          let step = tokens_step program (Tokened.hold y rest) inner frames tokens input s fs left at rest
+          (λ f. holds_slot f y tokens) after
           (by_cell program.pool.cells None (Some tokens) (λ r. hold_link n y tokens) n y q s.heap tokens pooled has
           ∙ ap (λ b. if b then None else Some after) free) in
           let kept = kept_quiet program (Tokened.hold y rest) inner frames tokens input s fs left at
@@ -221,7 +223,8 @@ module _ (program : Lowering) (y : ℕ) (rest : Tokened) where
           let n = length at.lists.older in
           let slots = tokens.slots (length at.lists.older) in
           let line = acts Unhold ((v + y) ∷ []) in
-          let step = tokens_step program (Tokened.unhold y rest) inner frames tokens input s fs left at rest (λ f. unheld f y tokens) tokens
+          let step = tokens_step program (Tokened.unhold y rest) inner frames tokens input s fs left at rest
+          (λ f. unheld f y tokens) tokens
           (by_null program.pool.cells None (Some tokens) (λ q. with_chain tokens (unlinked n y tokens.chain)) n y tokens empty) in
           let kept = kept_quiet program (Tokened.unhold y rest) inner frames tokens input s fs left at
           (machine_at program rest s.environment inner frames s.heap tokens) step refl in
@@ -277,7 +280,8 @@ module _ (program : Lowering) (y : ℕ) (rest : Tokened) where
           ∙ ap (λ slot. if is_token slot then record { frame = n; slot = y } ∷ links else links) has in
           let top_is : with_chain tokens (unlinked n y tokens.chain) ≡ Some after
           = ap (λ ls. with_chain tokens (unlinked n y ls)) chain_is ∙ ap (with_chain tokens) (unlinked_here n y links) in
-          let step = tokens_step program (Tokened.unhold y rest) inner frames tokens input s fs left at rest (λ f. unheld f y tokens) after
+          let step = tokens_step program (Tokened.unhold y rest) inner frames tokens input s fs left at rest
+          (λ f. unheld f y tokens) after
           (by_cell program.pool.cells None (Some tokens) (λ r. with_chain tokens (unlinked n y tokens.chain)) n y q s.heap tokens
           pooled has ∙ top_is) in
           let kept = kept_quiet program (Tokened.unhold y rest) inner frames tokens input s fs left at

@@ -203,7 +203,8 @@ module _ (program : Lowering) where
             judged = subst (λ (l : Lists). IsJudged program.pool.cells l.left l.unspent l.held l.older rest inner frames s.heap
                 tokens) (lists_stay form arguments at.lists after.0 is_plain after.1.0) after.1.1;
             does = does_behind program (Tokened.compute x form arguments others rest) inner frames tokens input s fs left at rest
-                form_own p.lines.1 p.lines.2 rests.0 rests.1 s.frame.whole refl place (x ∷ s.bound) (within_one x s.bound) p.marked.1.1 p.numbered.1.1
+                form_own p.lines.1 p.lines.2 rests.0 rests.1 s.frame.whole refl place (x ∷ s.bound)
+                (within_one x s.bound) p.marked.1.1 p.numbered.1.1
                 p.has.1 p.keeps.1.1 (omega arith);
             follows = subst (λ c. Follows program.pool program.layout s.address s.owners s.heap c) (sym cells_are) at.follows;
             cells = at.cells;

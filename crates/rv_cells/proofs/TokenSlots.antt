@@ -90,7 +90,8 @@ module _ (program : Lowering) (y : ℕ) (rest : Tokened) where
         let v = at.shape.variables in
         let n = length at.lists.older in
         let after : Tokens = record (blanked n y spent tokens) { marks = marks } in
-        let step = tokens_step program (Tokened.free y rest) inner frames tokens input s fs left at rest (λ f. freed f y tokens) after
+        let step = tokens_step program (Tokened.free y rest) inner frames tokens input s fs left at rest
+        (λ f. freed f y tokens) after
         freed_is in
         let kept = kept_quiet program (Tokened.free y rest) inner frames tokens input s fs left at
         (machine_at program rest s.environment inner frames s.heap after) step refl in
@@ -122,7 +123,8 @@ module _ (program : Lowering) (y : ℕ) (rest : Tokened) where
         let v = at.shape.variables in
         let n = length at.lists.older in
         frees_it tokens.marks s.owners s.world
-        (by_null program.pool.cells None (Some (blanked n y spent tokens)) (λ q. Some (released n y q spent tokens)) n y tokens empty)
+        (by_null program.pool.cells None (Some (blanked n y spent tokens)) (λ q. Some
+        (released n y q spent tokens)) n y tokens empty)
         (frees_null (known_of program at.shape) (p.lines.0 ++ p.after) fs s
         (record { follows = at.follows; values = at.has.values }) (v + y)
         (subst (λ slot. SlotIs s.address slot (s.frame.cells (v + y))) empty (at.has.tokens.are y)))
@@ -144,7 +146,8 @@ module _ (program : Lowering) (y : ℕ) (rest : Tokened) where
         ∙ not_linked tokens.slots at.lists.held at.lists.older y (ap (λ (ys : List ℕ). is_among ys y) at.judged.spends.0) in
         let ws = token_words program.layout s.address s.heap q in
         let hand = subst (λ b. IsTokenCell b ws (s.owners (s.address q))) free (at.cells.are n y q mark) in
-        let done = frees_token (known_of program at.shape) (p.lines.0 ++ p.after) fs s here (v + y) (s.address q) hand.0 value hand.1
+        let done = frees_token (known_of program at.shape) (p.lines.0 ++ p.after) fs s here (v + y)
+        (s.address q) hand.0 value hand.1
         program.some in
         let owners = with_owner (s.address q) nobody s.owners in
         frees_it after.marks owners (with_cells s.world done.0)
