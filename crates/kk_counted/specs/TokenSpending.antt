@@ -11,8 +11,8 @@ use Rattle.kk_counted.specs.BareForms.{bare}
 abbrev pub AreSame : List ℕ → List ℕ → Type 0
 AreSame xs ys = (y : ℕ) → is_among xs y ≡ is_among ys y
 
--- At a call each unspent token is held. Where a reference is given up between two calls, they may stay held. Everywhere else none is;
--- and a construction with fields names all unspent tokens, each once.
+-- At a call each unspent token is held. At a drop between two calls they may stay held. Everywhere else none is; and a construction
+-- with fields names all unspent tokens, each once.
 abbrev pub AtForm : Form → List ℕ → List ℕ → List ℕ → List ℕ → Type 0
 AtForm (Call f) arguments others unspent held = (y : ℕ) → is_among unspent y ≡ true → is_among held y ≡ true
 AtForm (Construct c) [] others unspent held = held ≡ []

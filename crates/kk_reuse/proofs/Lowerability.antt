@@ -1,4 +1,5 @@
--- Paired code can be lowered where the code can that it is made of: its slots are few, and it holds tokens around rows of calls alone.
+-- Paired code can be lowered where the code can that it is made of: its slots are few, and it holds tokens around rows of calls
+-- alone.
 use Rattle.std.proofs.Common.{◌≡◌, ◌≤◌, ℕ, zero, suc, ◌+◌, ◌-◌, Bool, true, false, if◌then◌else◌, List, [], ◌∷◌, map, Some, refl, sym, subst, arith}
 use Rattle.std.specs.Prelude.{slice_get}
 use Rattle.kk_syntax.specs.declared.program.Form.{Form}

@@ -215,8 +215,8 @@ inner_true block ends n =
     settled_all block ends (leaves true (kept true block n) block) n
     ∙ ap (λ k. tokened_words (paired true (leaves true k block) n block)) (kept_all block ends n)
 
--- A block inside and what comes behind it, where a cell may be made behind both: as many tokens as the block leaves come behind it, and
--- none is freed in front of either.
+-- A block inside and what comes behind it, where a cell may be made behind both: as many tokens as the block leaves come behind it,
+-- and none is freed in front of either.
 record InsideTakes (block rest : Counted) (n l : ℕ) : Type 0 where
   same : left_by true n block rest ≡ leaves true n block
   own : tokened_words (settled (may_make true rest) block n (paired (may_make true rest) (left_by true n block rest)
