@@ -154,7 +154,8 @@ fn emit_link(code: &mut Vec<Instr>, slot: Immediate) -> Result<(), NoMemory>
 
 /// Loads the token of a slot to `ra`, and goes over so much of what stands behind where the slot has none.
 fn emit_token(code: &mut Vec<Instr>, slot: Immediate, over: BranchOffset) -> Result<(), NoMemory>
-    ensures { OnOk result (Grew 2 (λ c at. (c at ≡ Some (Lw ra sp slot)) × (c (at + 4) ≡ Some (Beq ra zero_register over))) code.old.items code.new.items) }
+    ensures { OnOk result (Grew 2 (λ c at. (c at ≡ Some (Lw ra sp slot)) × (c (at + 4) ≡ Some (Beq ra zero_register over)))
+        code.old.items code.new.items) }
 {
     emit(
         code,
