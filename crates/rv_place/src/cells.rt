@@ -3,6 +3,8 @@
 ghost use Rattle.std.specs.Prelude.{◌≡◌, ℕ, ◌+◌, ◌*◌, ◌≤◌, Some, OnOk};
 ghost use Rattle.rv_isa.specs.PlacedMachine.{only_slot};
 ghost use Rattle.rv_isa.specs.FrameSizes.{slots_of_operands};
+ghost use Rattle.rv_isa.specs.declared.instr.Instr.TheVariants.{Lw, Beq};
+ghost use Rattle.rv_place.specs.Registers.{zero_register, ra, sp};
 ghost use Rattle.rv_place.specs.Addresses.{greatest_frame, slot_offset};
 ghost use Rattle.rv_place.specs.Instructions.{RaisesCount, FreesToken, LinksToken, HoldsToken, UnholdsToken};
 ghost use Rattle.rv_place.specs.Lines.{IsFromPointer};
@@ -150,13 +152,11 @@ fn emit_link(code: &mut Vec<Instr>, slot: Immediate) -> Result<(), NoMemory>
     Ok(())
 }
 
-/// Holds the token of a slot, which is the newest one then; where the slot has none, does nothing.
-pub fn emit_hold(code: &mut Vec<Instr>, jumps: Reach, args: &[Operand]) -> Result<(), NoMemory>
-    requires slots { 4 * slots_of_operands args.now + 4 ≤ greatest_frame jumps }
-    ensures { OnOk result (Grew 6 (TokenBy HoldsToken jumps args.now) code.old.items code.new.items) }
+/// Loads the token of a slot to `ra`, and goes over so much of what stands behind where the slot has none.
+fn emit_token(code: &mut Vec<Instr>, slot: Immediate, over: BranchOffset) -> Result<(), NoMemory>
+    ensures { OnOk result (Grew 2 (λ c at. (c at ≡ Some (Lw ra sp slot)) × (c (at + 4) ≡ Some (Beq ra zero_register over)))
+        code.old.items code.new.items) }
 {
-    let slot = token_offset(jumps, args);
-    let over = BranchOffset::new(20);
     emit(
         code,
         Instr::Lw {
@@ -173,6 +173,17 @@ pub fn emit_hold(code: &mut Vec<Instr>, jumps: Reach, args: &[Operand]) -> Resul
             offset: over,
         },
     )?;
+    Ok(())
+}
+
+/// Holds the token of a slot, which is the newest one then; where the slot has none, does nothing.
+pub fn emit_hold(code: &mut Vec<Instr>, jumps: Reach, args: &[Operand]) -> Result<(), NoMemory>
+    requires slots { 4 * slots_of_operands args.now + 4 ≤ greatest_frame jumps }
+    ensures { OnOk result (Grew 6 (TokenBy HoldsToken jumps args.now) code.old.items code.new.items) }
+{
+    let slot = token_offset(jumps, args);
+    let over = BranchOffset::new(20);
+    emit_token(code, slot, over)?;
     emit_link(code, slot)?;
     Ok(())
 }
@@ -182,23 +193,9 @@ pub fn emit_unhold(code: &mut Vec<Instr>, jumps: Reach, args: &[Operand]) -> Res
     requires slots { 4 * slots_of_operands args.now + 4 ≤ greatest_frame jumps }
     ensures { OnOk result (Grew 3 (TokenBy UnholdsToken jumps args.now) code.old.items code.new.items) }
 {
+    let slot = token_offset(jumps, args);
     let over = BranchOffset::new(8);
-    emit(
-        code,
-        Instr::Lw {
-            rd: Register::RA,
-            rs1: Register::SP,
-            imm: token_offset(jumps, args),
-        },
-    )?;
-    emit(
-        code,
-        Instr::Beq {
-            rs1: Register::RA,
-            rs2: Register::ZERO,
-            offset: over,
-        },
-    )?;
+    emit_token(code, slot, over)?;
     emit(
         code,
         Instr::Lw {

@@ -198,10 +198,10 @@ fn over_jump(jumps: Reach) -> BranchOffset
 fn emit_near_branch(
     code: &mut Vec<Instr>,
     at: u32,
+    target: u32,
     condition: Condition,
     left: Register,
     right: Register,
-    target: u32,
 ) -> Result<(), NoMemory>
     ensures { OnOk result (Grew 1 (λ c p. p ≡ at → AreNear (4 * branch_words) p target → BranchesOn Near Near c p condition left right target) code.old.items code.new.items) }
 {
@@ -214,11 +214,11 @@ fn emit_near_branch(
 fn emit_far_branch(
     code: &mut Vec<Instr>,
     at: u32,
+    target: u32,
     jumps: Reach,
     condition: Condition,
     left: Register,
     right: Register,
-    target: u32,
 ) -> Result<(), NoMemory>
     requires at { at ≤ greatest_address }
     ensures { OnOk result (Grew (1 + words_of_jump jumps) (λ c p. p ≡ at → JumpReaches jumps (p + 4) target → BranchesOn jumps Far c p condition left right target) code.old.items code.new.items) }
@@ -246,9 +246,9 @@ pub fn emit_branch(
     ensures { OnOk result (Grew (words_of_branch forms.jumps forms.branches) (λ c p. p ≡ at → BranchReaches forms.jumps forms.branches p target → BranchesOn forms.jumps forms.branches c p condition left right target) code.old.items code.new.items) }
 {
     match forms.branches {
-        Reach::Near => emit_near_branch(code, at, condition, left, right, target),
+        Reach::Near => emit_near_branch(code, at, target, condition, left, right),
         Reach::Far | Reach::Wide => {
-            emit_far_branch(code, at, forms.jumps, condition, left, right, target)
+            emit_far_branch(code, at, target, forms.jumps, condition, left, right)
         }
     }
 }
@@ -449,11 +449,11 @@ fn emit_framed_entry(code: &mut Vec<Instr>, at: u32, chart: &Chart) -> Result<()
     emit_far_branch(
         code,
         at + 4 * chart.jumps.words_to_frame(),
+        chart.symbols.stack_full,
         chart.jumps,
         Condition::Equal,
         frame_register(chart.jumps),
         Register::S3,
-        chart.symbols.stack_full,
     )?;
     emit_taking(code, chart.jumps, chart.frame)?;
     Ok(())

@@ -1,6 +1,6 @@
 // How many instructions code is, and how many bytes constants.
 
-ghost use Rattle.std.specs.Prelude.{◌≡◌, ◌+◌, ◌*◌, ◌≤◌, IsFalse, length, map};
+ghost use Rattle.std.specs.Prelude.{◌≡◌, ◌+◌, ◌*◌, ◌≤◌, IsFalse, cond, length, map};
 ghost use Rattle.rv_place.specs.declared.reach.Reach.TheVariants.{Near};
 ghost use Rattle.std.specs.List.{list_any};
 ghost use Rattle.rv_isa.specs.Costs.{operation_instructions, action_length, placed_line_length, placed_code_length, placed_functions_length};
@@ -92,6 +92,18 @@ pub fn is_silent(action: Action, args: &[Operand], into: Option<Operand>) -> boo
     is_copy(action) && stands_there(args, into) || gives_idly(action, into)
 }
 
+/// How many instructions an action is with its operands: none where it is silent.
+fn words_of_statement(forms: Forms, action: Action, args: &[Operand], into: Option<Operand>) -> u32
+    ensures words { result ≡ cond (is_silent action args.now into) 0 (words_of_action forms action) }
+    ensures few { result ≤ action_length action }
+{
+    if is_silent(action, args, into) {
+        0
+    } else {
+        words_of_action(forms, action)
+    }
+}
+
 /// How many instructions an item is.
 pub fn words_of_item(forms: Forms, item: &Item) -> u32
     ensures words { result ≡ words_of_line forms (placed_line_of item.now) }
@@ -103,13 +115,7 @@ pub fn words_of_item(forms: Forms, item: &Item) -> u32
             args,
             into,
             ..
-        } => {
-            if is_silent(*action, args, *into) {
-                0
-            } else {
-                words_of_action(forms, *action)
-            }
-        }
+        } => words_of_statement(forms, *action, args, *into),
         Item::Moves { .. } => 1,
     }
 }

@@ -164,47 +164,38 @@ fn found_first(
     Ok(goals)
 }
 
-// Before a label to which more than one way leads, values leave the registers of constants.
-fn leave_constants(
-    alloc: Global,
-    walk: &mut Walk,
-    label: u32,
-    plans: &Plans,
-) -> Result<(), NoMemory> {
-    if !is_one_of(label, &plans.lone) {
-        for value in alive_at(&plans.alive, label) {
-            if let Some(listed) = listing(&walk.state, *value) {
-                if listed.place.is_of_constant() {
-                    let to = spare_register(walk, &[])?;
-                    put_away(alloc, walk, listed, to)?;
-                }
+// Values leave the registers of constants.
+fn leave_constants(alloc: Global, walk: &mut Walk, values: &[u32]) -> Result<(), NoMemory> {
+    for value in values {
+        if let Some(listed) = listing(&walk.state, *value) {
+            if listed.place.is_of_constant() {
+                let to = spare_register(walk, &[])?;
+                put_away(alloc, walk, listed, to)?;
             }
         }
     }
     Ok(())
 }
 
-// Values that go early come to their slots before a label to which more than one way leads.
+// Those of the values that go early come to their slots.
 fn store_early(
     alloc: Global,
     walk: &mut Walk,
-    label: u32,
-    plans: &Plans,
+    values: &[u32],
     care: &Care,
 ) -> Result<(), NoMemory> {
-    if !is_one_of(label, &plans.lone) {
-        for value in alive_at(&plans.alive, label) {
-            if care.is_early(*value) {
-                if let Some(listed) = listing(&walk.state, *value) {
-                    put_store(alloc, walk, listed)?;
-                }
+    for value in values {
+        if care.is_early(*value) {
+            if let Some(listed) = listing(&walk.state, *value) {
+                put_store(alloc, walk, listed)?;
             }
         }
     }
     Ok(())
 }
 
-/// The code goes to the label from here, or may: each value comes to where it stands there.
+/// The code goes to the label from here, or may: each value comes to where it stands there. Where that is not known, and more than
+/// one way leads there, values that go early come to their slots, and values leave the registers of constants.
 pub fn go_to(
     alloc: Global,
     walk: &mut Walk,
@@ -216,9 +207,12 @@ pub fn go_to(
     if at < walk.kept.len() {
         let goals = same_state(alloc, &walk.kept[at].state)?;
         reach(alloc, walk, &goals, care)
+    } else if is_one_of(label, &plans.lone) {
+        Ok(())
     } else {
-        store_early(alloc, walk, label, plans, care)?;
-        leave_constants(alloc, walk, label, plans)
+        let values = alive_at(&plans.alive, label);
+        store_early(alloc, walk, values, care)?;
+        leave_constants(alloc, walk, values)
     }
 }
 
@@ -240,21 +234,22 @@ pub fn kept_register(walk: &Walk, keep: &[u32], ahead: &[u32], value: u32) -> Op
     None
 }
 
-/// Where values stand here, they stand at the label too.
+/// Where values stand here, by the state, they stand at the label too.
 pub fn join(
     alloc: Global,
-    walk: &mut Walk,
+    kept: &mut Vec<KeptState>,
+    state: &[Listed],
     label: u32,
     plans: &Plans,
     care: &Care,
 ) -> Result<(), NoMemory> {
-    let at = index_of(&walk.kept, label);
-    if at < walk.kept.len() {
-        let state = joined(alloc, &walk.kept[at].state, &walk.state)?;
-        walk.kept[at].state = state;
+    let at = index_of(kept, label);
+    if at < kept.len() {
+        let state = joined(alloc, &kept[at].state, state)?;
+        kept[at].state = state;
     } else {
-        let state = found_first(alloc, &walk.state, label, plans, care)?;
-        walk.kept.push(KeptState { label, state })?;
+        let state = found_first(alloc, state, label, plans, care)?;
+        kept.push(KeptState { label, state })?;
     }
     Ok(())
 }
@@ -358,6 +353,23 @@ fn way_to(listed: Listed, to: Register) -> Way {
     }
 }
 
+// The listing behind a move to a register, which has a copy then.
+fn copied_to(listed: Listed, to: Register) -> Listed {
+    Listed {
+        copy: Some(to),
+        ..listed
+    }
+}
+
+// The listing behind a move to a register, which is the value's place then.
+fn placed_in(listed: Listed, to: Register) -> Listed {
+    Listed {
+        place: Place::Register(to),
+        copy: None,
+        ..listed
+    }
+}
+
 /// Writes a move of a value to a register, which has a copy then.
 pub fn put_copy(
     alloc: Global,
@@ -365,11 +377,7 @@ pub fn put_copy(
     listed: Listed,
     to: Register,
 ) -> Result<(), NoMemory> {
-    let after = Listed {
-        copy: Some(to),
-        ..listed
-    };
-    put_move(alloc, walk, way_to(listed, to), after)
+    put_move(alloc, walk, way_to(listed, to), copied_to(listed, to))
 }
 
 /// Writes a move of a value to a register, which is its place then.
@@ -379,12 +387,7 @@ pub fn put_away(
     listed: Listed,
     to: Register,
 ) -> Result<(), NoMemory> {
-    let after = Listed {
-        place: Place::Register(to),
-        copy: None,
-        ..listed
-    };
-    put_move(alloc, walk, way_to(listed, to), after)
+    put_move(alloc, walk, way_to(listed, to), placed_in(listed, to))
 }
 
 /// Writes the store of a value, if a register is its place.

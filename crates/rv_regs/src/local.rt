@@ -6,7 +6,7 @@ use crate::joins::{
 use crate::keeping::may_spoil;
 use crate::liveness::{copy_of, is_one_of};
 use crate::places::listing;
-use crate::plans::{Care, Due, Plan, Plans, goes_on, plans_of, spoils_many};
+use crate::plans::{Care, Due, Plan, Plans, goes_on, named_label, plans_of, spoils_many};
 use crate::state::{
     argument_register, is_free, is_in, is_to_be_had, is_wished_for, operands_at, register_of,
     same_state, standing_in, stands_in, state_at, state_behind, state_clear_of, state_uncopied,
@@ -510,42 +510,15 @@ fn pay(alloc: Global, walk: &mut Walk, plan: &Plan, care: &Care) -> Result<(), N
     Ok(())
 }
 
-// Values come to where they stand at the label that a statement is or names, and to where the statement takes them.
-fn approach(
-    alloc: Global,
-    walk: &mut Walk,
-    statement: &Statement,
-    before: &Plan,
-    behind: &Plan,
-    plans: &Plans,
-    care: &Care,
-) -> Result<(), NoMemory> {
-    match statement.action {
-        Action::Label(label) => {
-            if walk.is_reached {
-                go_to(alloc, walk, label, plans, care)?;
-                join(alloc, walk, label, plans, care)?;
-            }
-            walk.state = take_state(alloc, &mut walk.kept, label, &before.point)?;
-            Ok(())
-        }
-        Action::Jump(label) => {
-            go_to(alloc, walk, label, plans, care)?;
-            join(alloc, walk, label, plans, care)
-        }
-        Action::Branch(_, label) => {
-            go_to(alloc, walk, label, plans, care)?;
-            prepare(alloc, walk, statement, before, behind)?;
-            store_some(alloc, walk, &before.stored, behind)?;
-            join(alloc, walk, label, plans, care)
-        }
-        _ => {
-            prepare(alloc, walk, statement, before, behind)?;
-            store_some(alloc, walk, &before.stored, behind)
-        }
+// The label to which the code goes from before a statement, or may.
+fn label_ahead(is_reached: bool, action: Action) -> Option<u32> {
+    match action {
+        Action::Label(label) if is_reached => Some(label),
+        _ => named_label(action),
     }
 }
 
+// Values come to where they stand at the label to which the code goes, or may, and to where the statement takes them.
 fn step(
     alloc: Global,
     walk: &mut Walk,
@@ -560,7 +533,20 @@ fn step(
     if walk.is_reached {
         pay(alloc, walk, before, care)?;
     }
-    approach(alloc, walk, statement, before, behind, plans, care)?;
+    let ahead = label_ahead(walk.is_reached, statement.action);
+    if let Some(label) = ahead {
+        go_to(alloc, walk, label, plans, care)?;
+    }
+    if !matches!(statement.action, Action::Label(_) | Action::Jump(_)) {
+        prepare(alloc, walk, statement, before, behind)?;
+        store_some(alloc, walk, &before.stored, behind)?;
+    }
+    if let Some(label) = ahead {
+        join(alloc, &mut walk.kept, &walk.state, label, plans, care)?;
+    }
+    if let Action::Label(label) = statement.action {
+        walk.state = take_state(alloc, &mut walk.kept, label, &before.point)?;
+    }
     blame(alloc, walk, &statement.args, care)?;
     put_line(alloc, walk, statement, behind, care)?;
     walk.last = walk.index;

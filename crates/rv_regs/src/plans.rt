@@ -3,12 +3,13 @@
 use crate::keeping::may_spoil;
 use crate::liveness::{
     LabelPoint, Point, alive_at, alive_before, alive_behind, copy_of, held_before, is_one_of,
-    is_result, with_point,
+    is_result,
 };
 use crate::state::argument_register;
 use kk_base::NoMemory;
 use rv_isa::{Action, Operation, Register, Routine, Statement};
 use std::alloc::Global;
+use std::mem;
 
 /// The most work that code with registers is worth: its lines times the square of the most values that are alive at a point.
 const MOST_WORK: usize = 50_000_000;
@@ -83,13 +84,13 @@ pub struct Plans {
 struct Walk {
     passed: Vec<Plan>,
     at: Plan,
+    wishes: Vec<LabelWishes>,
+    ahead: Vec<LabelPoint>,
     alive: Vec<LabelPoint>,
     slotted: Vec<LabelPoint>,
     stored: Vec<LabelPoint>,
     crossing: Vec<LabelPoint>,
     joining: Vec<LabelPoint>,
-    wishes: Vec<LabelWishes>,
-    ahead: Vec<LabelPoint>,
 }
 
 impl Care {
@@ -128,7 +129,8 @@ pub fn spoils_many(action: Action) -> bool {
     )
 }
 
-fn named_label(action: Action) -> Option<u32> {
+/// The label to which a jump or a branch leads.
+pub fn named_label(action: Action) -> Option<u32> {
     match action {
         Action::Jump(label) => Some(label),
         Action::Branch(_, label) => Some(label),
@@ -409,60 +411,46 @@ fn plan_before(
     })
 }
 
-// The table with the wishes at one label more, if the action is a label.
-fn with_wishes(
+// Adds the values of one label more to a table.
+fn put_point(
     alloc: Global,
-    mut table: Vec<LabelWishes>,
-    action: Action,
-    here: &[Wish],
-) -> Result<Vec<LabelWishes>, NoMemory> {
-    if let Action::Label(label) = action {
-        let mut wishes = Vec::new(alloc);
-        wishes.extend_from_slice(here)?;
-        table.push(LabelWishes { label, wishes })?;
-    }
-    Ok(table)
+    points: &mut Vec<LabelPoint>,
+    label: u32,
+    values: &[u32],
+) -> Result<(), NoMemory> {
+    let alive = copy_of(alloc, values)?;
+    points.push(LabelPoint { label, alive })?;
+    Ok(())
+}
+
+// Adds what is needed at one label more to the tables.
+fn put_label(alloc: Global, walk: &mut Walk, label: u32, plan: &Plan) -> Result<(), NoMemory> {
+    put_point(alloc, &mut walk.alive, label, &plan.point.alive)?;
+    put_point(alloc, &mut walk.slotted, label, &plan.slotted)?;
+    put_point(alloc, &mut walk.stored, label, &plan.stored)?;
+    put_point(alloc, &mut walk.crossing, label, &plan.crossing)?;
+    put_point(alloc, &mut walk.joining, label, &plan.joining)?;
+    put_point(alloc, &mut walk.ahead, label, &plan.ahead)?;
+    let mut wishes = Vec::new(alloc);
+    wishes.extend_from_slice(&plan.wishes)?;
+    walk.wishes.push(LabelWishes { label, wishes })?;
+    Ok(())
 }
 
 fn step(
     alloc: Global,
-    walk: Walk,
+    walk: &mut Walk,
     statement: &Statement,
     lone: &[u32],
     care: &Care,
-) -> Result<Walk, NoMemory> {
-    let before = plan_before(alloc, &walk, statement, lone, care)?;
-    let Walk {
-        mut passed,
-        at,
-        alive,
-        slotted,
-        stored,
-        crossing,
-        joining,
-        wishes,
-        ahead,
-    } = walk;
-    let action = statement.action;
-    let alive = with_point(alive, action, copy_of(alloc, &before.point.alive)?)?;
-    let slotted = with_point(slotted, action, copy_of(alloc, &before.slotted)?)?;
-    let stored = with_point(stored, action, copy_of(alloc, &before.stored)?)?;
-    let crossing = with_point(crossing, action, copy_of(alloc, &before.crossing)?)?;
-    let joining = with_point(joining, action, copy_of(alloc, &before.joining)?)?;
-    let ahead = with_point(ahead, action, copy_of(alloc, &before.ahead)?)?;
-    let wishes = with_wishes(alloc, wishes, action, &before.wishes)?;
-    passed.push(at)?;
-    Ok(Walk {
-        passed,
-        at: before,
-        alive,
-        slotted,
-        stored,
-        crossing,
-        joining,
-        wishes,
-        ahead,
-    })
+) -> Result<(), NoMemory> {
+    let before = plan_before(alloc, walk, statement, lone, care)?;
+    if let Action::Label(label) = statement.action {
+        put_label(alloc, walk, label, &before)?;
+    }
+    let behind = mem::replace(&mut walk.at, before);
+    walk.passed.push(behind)?;
+    Ok(())
 }
 
 fn is_too_much(lines: usize, values: usize) -> bool {
@@ -490,18 +478,18 @@ pub fn plans_of(alloc: Global, code: &[Statement], care: &Care) -> Result<Option
     let mut walk = Walk {
         passed: Vec::new(alloc),
         at: no_plan(alloc),
+        wishes: Vec::new(alloc),
+        ahead: Vec::new(alloc),
         alive: Vec::new(alloc),
         slotted: Vec::new(alloc),
         stored: Vec::new(alloc),
         crossing: Vec::new(alloc),
         joining: Vec::new(alloc),
-        wishes: Vec::new(alloc),
-        ahead: Vec::new(alloc),
     };
     let mut left = code.len();
     while left > 0 {
         left -= 1;
-        walk = step(alloc, walk, &code[left], &lone, care)?;
+        step(alloc, &mut walk, &code[left], &lone, care)?;
         if is_too_much(code.len(), walk.at.point.alive.len()) {
             return Ok(None);
         }
