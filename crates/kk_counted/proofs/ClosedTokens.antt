@@ -77,7 +77,7 @@ tokens_end unspent held _ _ (follows (TokenedMove.opens x c fields used y) one t
 tokens_end unspent held _ _ (follows (TokenedMove.opens_unique x c fields used y) one two rest) s =
     (s.0, (s.1.0, tokens_end (y ∷ unspent) [] one two rest s.1.1))
 tokens_end unspent held _ _ (follows (TokenedMove.dups x) one two rest) s = (s.0, tokens_end unspent [] one two rest s.1)
-tokens_end unspent held _ _ (follows (TokenedMove.drops x) one two rest) s = (s.0, tokens_end unspent [] one two rest s.1)
+tokens_end unspent held _ _ (follows (TokenedMove.drops x) one two rest) s = tokens_end unspent held one two rest s
 tokens_end unspent held _ _ (follows (TokenedMove.fills x y c first arguments kept others) one two rest) s =
     (s.0, (s.1.0, (s.1.1.0, (s.1.1.1.0, tokens_end (without (y ∷ []) unspent) [] one two rest s.1.1.1.1))))
 tokens_end unspent held _ _ (follows (TokenedMove.frees y) one two rest) s =
