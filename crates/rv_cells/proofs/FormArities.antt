@@ -142,7 +142,7 @@ sets_by (Some x) word base more is begins = record {
   is = ap (λ held. slice_get (sets word base ∷ more) (cond (is_some held) (suc (lead more)) 0)) is ∙ begins.is;
   some = begins.some;
 }
-sets_by None word base more is begins = begins_at (sets word base) more (ap is_some is) (ap is_none is)
+sets_by None word base more is begins = begins_at (sets word base) more (ap is_some is) (ap (λ held. is_none held && true) is)
 
 -- a line that is there, in front of others too
 pub get_left : (xs ys : List Line) (k : ℕ) (line : Line) → slice_get xs k ≡ Some line → slice_get (xs ++ ys) k ≡ Some line
