@@ -125,20 +125,28 @@ fn shift(alloc: Global, shape: &Shape) -> Result<TokenedFun, NoMemory>
     finished(emitter, arms)
 }
 
+/// Whether a function opens its box by its count and ends by a branch on what was inside, whose first row frees the cell and gives
+/// that.
+fn frees_first(function: &TokenedFun) -> bool {
+    let steps = &function.body.steps;
+    let rows = rows_of(&function.body.last, 1);
+    steps.len() == 1
+        && opens_by_count(&steps[0], &[1], &[1])
+        && rows.len() == 2
+        && rows[0].steps.len() == 1
+        && matches!(rows[0].steps[0], TokenedStep::Free { slot: 0 })
+        && matches!(rows[0].last, TokenedLast::Return(1))
+}
+
 /// It opens the cell. Where it gives what is inside it frees the cell, and else it holds it and builds one in its place. The branch
 /// ends the function.
 #[test]
 fn a_token_is_freed_or_held_by_rows(rt: HostRuntime) -> Result<(), NoMemory> {
     let shape = shape_of_boxes(rt.alloc())?;
     let function = shift(rt.alloc(), &shape)?;
-    let steps = &function.body.steps;
-    assert_eq!(rt; steps.len(), 1);
-    assert!(rt; opens_by_count(&steps[0], &[1], &[1]));
+    assert!(rt; frees_first(&function));
     let rows = rows_of(&function.body.last, 1);
     assert_eq!(rt; rows.len(), 2);
-    assert_eq!(rt; rows[0].steps.len(), 1);
-    assert!(rt; matches!(rows[0].steps[0], TokenedStep::Free { slot: 0 }));
-    assert!(rt; matches!(rows[0].last, TokenedLast::Return(1)));
     assert_eq!(rt; rows[1].steps.len(), 4);
     assert!(rt; matches!(rows[1].steps[0], TokenedStep::Hold { slot: 0 }));
     assert!(rt; computes(&rows[1].steps[1], 2, Form::Call(0), &[1], &[0]));
@@ -224,14 +232,9 @@ fn innermost(alloc: Global, shape: &Shape) -> Result<TokenedFun, NoMemory>
 fn a_row_ends_by_a_tail_call(rt: HostRuntime) -> Result<(), NoMemory> {
     let shape = shape_of_boxes(rt.alloc())?;
     let function = innermost(rt.alloc(), &shape)?;
-    let steps = &function.body.steps;
-    assert_eq!(rt; steps.len(), 1);
-    assert!(rt; opens_by_count(&steps[0], &[1], &[1]));
+    assert!(rt; frees_first(&function));
     let rows = rows_of(&function.body.last, 1);
     assert_eq!(rt; rows.len(), 2);
-    assert_eq!(rt; rows[0].steps.len(), 1);
-    assert!(rt; matches!(rows[0].steps[0], TokenedStep::Free { slot: 0 }));
-    assert!(rt; matches!(rows[0].last, TokenedLast::Return(1)));
     assert_eq!(rt; rows[1].steps.len(), 1);
     assert!(rt; matches!(rows[1].steps[0], TokenedStep::Free { slot: 0 }));
     assert!(rt; calls(&rows[1].last, &[1]));
