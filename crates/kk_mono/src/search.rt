@@ -29,8 +29,8 @@ pub struct Looked {
     pub constructed: Vec<u32>,
 }
 
-/// The search for the instances: those that are known, of which the first so many have been looked at, and their ground
-/// constructors.
+/// The work list of the search for instances: all instances and ground constructors that are known so far. Those instances that
+/// have been looked at come first.
 #[derive(Debug, Drop)]
 pub struct Found {
     pub types: Types,

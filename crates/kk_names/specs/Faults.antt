@@ -28,7 +28,7 @@ rank Arity = 2
 abbrev pub IsBefore : Fault → Fault → Type 0
 IsBefore fault other = (fault.at < other.at) ⊎ ((fault.at ≡ other.at) × (rank fault.kind < rank other.kind))
 
--- a fault of a list is the first one: it is before those that are listed before it, and none behind it is before it
+-- the first fault of a list: the least one, and among equal ones the one that is listed first
 pub record IsFirstFault (faults : List Fault) (fault : Fault) : Type 0 where
   pub earlier : List Fault
   pub later : List Fault

@@ -150,7 +150,7 @@ fn same_positions(alloc: Global, fields: &[u32], arguments: &[u32]) -> Result<Ve
     Ok(kept)
 }
 
-/// The next position. Those above a `u32` would want more memory than there is.
+/// The next position. An overflow of `u32` is answered as out of memory.
 fn next(position: u32) -> Result<u32, NoMemory>
     ensures { IfOk result (λ next. next ≡ position + 1) }
 {

@@ -77,7 +77,7 @@ fn arms_may_make(behind: bool, arms: &[Block]) -> bool
     false
 }
 
-/// One token more. Numbers above those of a `u32` would want more memory than there is.
+/// One token more. An overflow of `u32` is answered as out of memory.
 pub fn one_more(tokens: u32) -> Result<u32, NoMemory>
     ensures { IfOk result (λ more. more ≡ tokens + 1) }
 {

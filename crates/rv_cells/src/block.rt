@@ -44,8 +44,7 @@ pub fn take_targets(
     Ok(Targets { nodes, arms: first })
 }
 
-/// So many labels that were not taken before, the first of which it answers. More than a `u32` counts would want more memory than
-/// there is.
+/// Takes so many new labels, and answers the first of them. An overflow of `u32` is answered as out of memory.
 fn take_labels(lowering: &mut Lowering, count: usize) -> Result<u32, NoMemory>
     ensures { IfOk result (λ label. TookLabels count label lowering.old lowering.new) }
 {

@@ -21,7 +21,7 @@ const HEADER: u32 = 1;
 
 const FIELDS: u32 = 2;
 
-/// The offset of a word of a cell. One that no line can name would want more memory than there is.
+/// The offset of a word of a cell. An overflow of the offsets that a line can name is answered as out of memory.
 fn offset(index: u32) -> Result<Immediate, NoMemory>
     ensures { IfOk result (λ offset. offset.word ≡ 4 * index) }
 {

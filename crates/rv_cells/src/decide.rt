@@ -91,7 +91,7 @@ fn first_label(targets: Targets, number: u32, nodes: &[Node]) -> Result<u32, NoM
     Ok(targets.arms)
 }
 
-/// A number behind another one. Numbers above those of a `u32` would want more memory than there is.
+/// The sum of two numbers. An overflow of `u32` is answered as out of memory.
 fn sum(first: u32, second: u32) -> Result<u32, NoMemory>
     ensures { IfOk result (λ sum. sum ≡ first + second) }
 {

@@ -266,7 +266,7 @@ impl Known<'_> {
         }
     }
 
-    /// The header of a constructor's cells. One that a word cannot hold would want more memory than there is.
+    /// The header of a constructor's cells. An overflow of a word is answered as out of memory.
     pub fn header(&self, constructor: u32) -> Result<u32, NoMemory>
         ensures { IfOk result (λ word. word ≡ header_of (layout_known self.now) constructor) }
     {
@@ -280,7 +280,7 @@ impl Known<'_> {
         }
     }
 
-    /// The word of a constructor without fields. One that is none would want more memory than there is.
+    /// The word of a constructor without fields. An overflow of a word is answered as out of memory.
     pub fn constant(&self, constructor: u32) -> Result<u32, NoMemory>
         ensures { IfOk result (λ word. word ≡ 2 * (layout_known self.now).tag constructor + 1) }
     {
@@ -292,7 +292,7 @@ impl Known<'_> {
         }
     }
 
-    /// The value of a slot: those of slots are behind all variables. More than a `u32` counts would want more memory than there is.
+    /// The value of a slot: those of slots are behind all variables. An overflow of `u32` is answered as out of memory.
     pub fn slot(&self, slot: u32) -> Result<u32, NoMemory>
         ensures { IfOk result (λ value. value ≡ variables_known self.now + slot) }
     {

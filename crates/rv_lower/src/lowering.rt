@@ -55,7 +55,7 @@ impl Lowering {
         Ok(())
     }
 
-    /// The temporary of this index. Numbers above those of a `u32` would want more memory than there is.
+    /// The temporary of this index. An overflow of `u32` is answered as out of memory.
     pub fn temporary(&self, index: u32) -> Result<u32, NoMemory>
         ensures { IfOk result (λ value. value ≡ self.now.base + index) }
     {
@@ -79,7 +79,7 @@ impl Lowering {
         }
     }
 
-    /// Adds constant bytes, and answers their index. More than a `u32` counts would want more memory than there is.
+    /// Adds constant bytes, and answers their index. An overflow of `u32` is answered as out of memory.
     pub fn add_text(&mut self, text: Text) -> Result<u32, NoMemory>
         ensures { IfOk result (λ index. AddedText index text self.old self.new) }
     {
@@ -108,7 +108,7 @@ impl Lowering {
     }
 }
 
-/// The next number. Numbers above those of a `u32` would want more memory than there is.
+/// The next number. An overflow of `u32` is answered as out of memory.
 pub fn next(number: u32) -> Result<u32, NoMemory>
     ensures { IfOk result (λ next. next ≡ number + 1) }
 {

@@ -24,7 +24,7 @@ use std::alloc::Global;
 /// The word of `()`.
 const UNIT: u32 = 1;
 
-/// The word of a constructor without fields, by its number. A number whose word is none would want more memory than there is.
+/// The word of a constructor without fields, by its number. An overflow of a word is answered as out of memory.
 pub fn constant_of(constructor: u32) -> Result<u32, NoMemory>
     ensures { IfOk result (λ word. word ≡ constant_word constructor) }
 {
