@@ -4,7 +4,7 @@ use mathlib.Core.Path.{fun_ext}
 use Rattle.std.proofs.lemmas.Bool.{cases_lt}
 use Rattle.std.proofs.lemmas.Bool.Decides.{nat_tests}
 use Rattle.rv_isa.specs.Bytes.{with_number, Apart}
-use Rattle.rv_isa.specs.Numbers.{cell_words}
+use Rattle.rv_isa.specs.Numbers.{cell_size, cell_words}
 use Rattle.rv_isa.specs.Processor.{Processor, value, can_load, can_store}
 use Rattle.rv_isa.proofs.Memory.{word-same, word-apart}
 use Rattle.cell_heap.specs.Cells.{Cell, no_cell, free, token, counted, changed, occurs}
@@ -22,17 +22,17 @@ mapped f (Some a) b is = (a, refl, cc)
 
 -- ---- places in a block
 
-by_index : (offset i : ℕ) (whole low : Bool) → nat_eq (offset % 4) 0 ≡ whole → nat_lt offset 32 ≡ low → (if whole && low then Some (offset / 4) else None) ≡ Some i → (offset ≡ 4 * i) × (i < cell_words)
+by_index : (offset i : ℕ) (whole low : Bool) → nat_eq (offset % 4) 0 ≡ whole → nat_lt offset cell_size ≡ low → (if whole && low then Some (offset / 4) else None) ≡ Some i → (offset ≡ 4 * i) × (i < cell_words)
 by_index offset i true true whole low is =
     let at : offset / 4 ≡ i = cc in
     let none : offset % 4 ≡ 0 = grind (arith, nat_tests) in
-    let below : offset < 32 = grind (arith, nat_tests) in
+    let below : offset < cell_size = grind (arith, nat_tests) in
     (omega arith, omega arith)
 by_index offset i true false whole low is = cc
 by_index offset i false low whole test is = cc
 
 pub index-is : (offset i : ℕ) → index_of offset ≡ Some i → (offset ≡ 4 * i) × (i < cell_words)
-index-is offset i is = by_index offset i (nat_eq (offset % 4) 0) (nat_lt offset 32) refl refl is
+index-is offset i is = by_index offset i (nat_eq (offset % 4) 0) (nat_lt offset cell_size) refl refl is
 
 -- ---- what is seen of a block
 
@@ -154,7 +154,7 @@ module _ {pool : Pool} {cells : Cells} {links : List Link} {s : Processor} (hold
     not_held = own-apart;
   }
 
-  pub own-inside : (at + 32 ≤ end_of pool) × (end_of pool < 2 ^ 32)
+  pub own-inside : (at + cell_size ≤ end_of pool) × (end_of pool < 2 ^ 32)
   own-inside = (cell-inside pool at holds.memory.usable.aligned own-cell, holds.memory.usable.below)
 
   -- a word of it may be loaded and stored
@@ -170,25 +170,25 @@ module _ {pool : Pool} {cells : Cells} {links : List Link} {s : Processor} (hold
       )
 
   -- and is none of another cell's, so of no free one's
-  pub own-no_other : (i x : ℕ) → i < cell_words → IsCell pool x → x ≢ at → (at + 4 * i + 4 ≤ x) ⊎ (x + 32 ≤ at + 4 * i)
+  pub own-no_other : (i x : ℕ) → i < cell_words → IsCell pool x → x ≢ at → (at + 4 * i + 4 ≤ x) ⊎ (x + cell_size ≤ at + 4 * i)
   own-no_other i x low other differ =
       let cell = own-cell in
       let whole = cell.aligned in
       let other_whole = other.aligned in
       elim (cases_lt at x) [ inl below ↦ inl (omega arith) | inr above ↦ inr (omega arith) ]
 
-  pub own-no_free : (i x : ℕ) → i < cell_words → seen_cells cells x ≡ free → (at + 4 * i + 4 ≤ x) ⊎ (x + 32 ≤ at + 4 * i)
+  pub own-no_free : (i x : ℕ) → i < cell_words → seen_cells cells x ≡ free → (at + 4 * i + 4 ≤ x) ⊎ (x + cell_size ≤ at + 4 * i)
   own-no_free i x low is_free =
       own-no_other i x low (shown-cell holds.memory.shown x free is_free (λ e. cc)) (λ e. seen-not_free words (sym seen-is ∙ ap (seen_cells cells) (sym e) ∙ is_free))
 
 -- a block of which a word is loaded or stored
-pub loaded-block : (cells : Cells) (at offset w : ℕ) → load at offset cells ≡ Some w → (words : ℕ → Option ℕ) × (cells.blocks at ≡ own words) × (offset + 4 ≤ 32)
+pub loaded-block : (cells : Cells) (at offset w : ℕ) → load at offset cells ≡ Some w → (words : ℕ → Option ℕ) × (cells.blocks at ≡ own words) × (offset + 4 ≤ cell_size)
 loaded-block cells at offset w is =
     let found = loaded-own (cells.blocks at) (index_of offset) w is in
     let place = index-is offset found.1 found.3 in
     (found.0, found.2, omega (arith, place.0, place.1))
 
-pub stored-block : (cells next : Cells) (at offset w : ℕ) → store at offset w cells ≡ Some next → (words : ℕ → Option ℕ) × (cells.blocks at ≡ own words) × (offset + 4 ≤ 32)
+pub stored-block : (cells next : Cells) (at offset w : ℕ) → store at offset w cells ≡ Some next → (words : ℕ → Option ℕ) × (cells.blocks at ≡ own words) × (offset + 4 ≤ cell_size)
 stored-block cells next at offset w is =
     let done = mapped (λ block. with_block at block cells) (stored_in (cells.blocks at) (index_of offset) w) next is in
     let found = stored-own (cells.blocks at) (index_of offset) w done.0 done.1 in
@@ -209,7 +209,7 @@ own-word {s = s} holds at offset i words is index =
       aligned = subst (λ a. a % 4 ≡ 0) there usable.0;
       loads = subst (λ a. can_load s.parts a 4 ≡ true) there usable.1;
       stores = subst (λ a. can_store s.parts a 4 ≡ true) there usable.2;
-      no_free = λ x is_free. subst (λ a. (a + 4 ≤ x) ⊎ (x + 32 ≤ a)) there (own-no_free holds at words is i x low is_free);
+      no_free = λ x is_free. subst (λ a. (a + 4 ≤ x) ⊎ (x + cell_size ≤ a)) there (own-no_free holds at words is i x low is_free);
     }
 
 -- what is loaded is there
@@ -226,14 +226,14 @@ load-shows {cells = cells} {s = s} holds at offset w is =
 
 -- ---- what stays known
 
-known-same : (old new : ℕ → ℕ) (x first : ℕ) (words : ℕ → Option ℕ) → SameWords old new x (x + 32) → AreKnown old x first words → AreKnown new x first words
+known-same : (old new : ℕ → ℕ) (x first : ℕ) (words : ℕ → Option ℕ) → SameWords old new x (x + cell_size) → AreKnown old x first words → AreKnown new x first words
 known-same old new x first words same known i w low high is =
     let old_word = known i w low high is in
     (same.same (x + 4 * i) (omega arith) (omega arith) ∙ old_word.0, old_word.1)
 
 -- of a block whose words are the same
 pub block-same : {pool : Pool} {cells : Cells} {links : List Link} {s : Processor} → HoldsCells pool cells links s → (new : ℕ → ℕ) (x : ℕ) (block : Block) → cells.blocks x ≡ block
-    → (IsCell pool x → SameWords s.memory new x (x + 32)) → IsKnown new x block
+    → (IsCell pool x → SameWords s.memory new x (x + cell_size)) → IsKnown new x block
 block-same holds new x no_block is same = tt
 block-same holds new x unused is same = tt
 block-same {s = s} holds new x (own words) is same =

@@ -9,6 +9,7 @@ use Rattle.cell_heap.proofs.Sums.{occurs-first, occurs-other, occurs-cells}
 use Rattle.cell_heap.proofs.Frames.{changed-by, shown-cell}
 use Rattle.cell_heap.proofs.CountChanges.{IsListed, counted-some, waiting-some, is-some}
 use Rattle.cell_heap.specs.Turns.{Turns, ended, passed, lower, waits_now, opened}
+use Rattle.rv_isa.specs.Numbers.{cell_size}
 
 -- each cell of the heap is one of the pool
 pub record IsPlaced (pool : Pool) (heap : Heap) : Type 0 where
@@ -17,7 +18,7 @@ pub record IsPlaced (pool : Pool) (heap : Heap) : Type 0 where
 pub IsPlaced-shown : {pool : Pool} {memory : ℕ → ℕ} {heap : Heap} → IsShown pool memory heap → IsPlaced pool heap
 IsPlaced-shown {pool} {memory} {heap} shown = record { each = λ at some. shown-cell shown at (heap at) refl some }
 
-pub IsPlaced-listed : {pool : Pool} {heap : Heap} → pool.first % 32 ≡ 0 → IsPlaced pool heap → IsListed (places pool) heap
+pub IsPlaced-listed : {pool : Pool} {heap : Heap} → pool.first % cell_size ≡ 0 → IsPlaced pool heap → IsListed (places pool) heap
 IsPlaced-listed {pool} {heap} aligned placed = record {
   once = λ at some.
       let cell = placed.each at some in

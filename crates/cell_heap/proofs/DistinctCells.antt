@@ -3,30 +3,32 @@ use Rattle.std.proofs.Common.{◌≡◌, ◌≢◌, ◌≤◌, ◌<◌, ℕ, zer
 use Rattle.std.proofs.lemmas.Bool.{cases_eq}
 use Rattle.cell_heap.specs.Cells.{occurs}
 use Rattle.rv_isa.specs.FreeCells.{cells_from}
+use Rattle.rv_isa.specs.Numbers.{cell_size}
 use Rattle.cell_heap.specs.Counts.{total}
 use Rattle.cell_heap.proofs.Sums.{occurs-same, occurs-other, occurs-by, occurs-none, total-none}
 
 -- what is among cells that lie from an address on
-pub cells_from-member : (x at count : ℕ) → occurs x (cells_from at count) ≢ 0 → (at ≤ x) × (x < at + 32 * count) × (x % 32 ≡ at % 32)
+pub cells_from-member : (x at count : ℕ) → occurs x (cells_from at count) ≢ 0 → (at ≤ x) × (x < at + cell_size * count) × (x % cell_size ≡ at % cell_size)
 cells_from-member x at zero some = absurd (some refl)
 cells_from-member x at (suc count) some =
-    elim (occurs-by x at (cells_from (at + 32) count) some) [
-      | inl e ↦ (omega arith, omega arith, ap (λ n. n % 32) e)
-      | inr later ↦ (let rest = cells_from-member x (at + 32) count later in let low = rest.0 in let high = rest.1 in let whole = rest.2 in (omega arith, omega arith, omega arith))
+    elim (occurs-by x at (cells_from (at + cell_size) count) some) [
+      | inl e ↦ (omega arith, omega arith, ap (λ n. n % cell_size) e)
+      | inr later ↦ (let rest = cells_from-member x (at + cell_size) count later in let low = rest.0 in let high = rest.1 in let whole = rest.2 in (omega arith, omega arith, omega arith))
     ]
 
 pub length-cells_from : (at count : ℕ) → length (cells_from at count) ≡ count
 length-cells_from at zero = refl
-length-cells_from at (suc count) = ap suc (length-cells_from (at + 32) count)
+length-cells_from at (suc count) = ap suc (length-cells_from (at + cell_size) count)
 
 -- the cells from an address on, in two parts
-pub cells_from-add : (at front back : ℕ) → cells_from at (front + back) ≡ cells_from at front ++ cells_from (at + 32 * front) back
+pub cells_from-add : (at front back : ℕ)
+    → cells_from at (front + back) ≡ cells_from at front ++ cells_from (at + cell_size * front) back
 cells_from-add at zero back =
-    let sum : 0 + back ≡ back = omega arith in let here : at + 32 * 0 ≡ at = omega arith in rw (sum, here) refl
+    let sum : 0 + back ≡ back = omega arith in let here : at + cell_size * 0 ≡ at = omega arith in rw (sum, here) refl
 cells_from-add at (suc front) back =
     let sum : suc front + back ≡ suc (front + back) = omega arith in
-    let there : at + 32 * suc front ≡ at + 32 + 32 * front = omega arith in
-    rw (sum, there) (ap (λ cells. at ∷ cells) (cells_from-add (at + 32) front back))
+    let there : at + cell_size * suc front ≡ at + cell_size + cell_size * front = omega arith in
+    rw (sum, there) (ap (λ cells. at ∷ cells) (cells_from-add (at + cell_size) front back))
 
 -- a member more is one more where it is among the places
 total-more : (x : ℕ) (xs places : List ℕ) → total (λ p. occurs p (x ∷ xs)) places ≡ occurs x places + total (λ p. occurs p xs) places

@@ -3,6 +3,7 @@ use Rattle.std.proofs.Common.{◌≡◌, ◌≢◌, ◌≤◌, ◌<◌, ◌↔�
 use Rattle.std.proofs.lemmas.Bool.Decides.{nat_tests}
 use Rattle.rv_isa.specs.Bytes.{number_at, with_number, bytes_at, with_bytes}
 use Rattle.rv_isa.specs.Processor.{Processor}
+use Rattle.rv_isa.specs.Numbers.{cell_size}
 use Rattle.cell_heap.specs.Cells.{Body, Cell, no_cell, free, token, waiting, counted, Heap, changed, owned, occurs}
 use Rattle.cell_heap.specs.Pool.{IsCell, IsUsable, places}
 use Rattle.cell_heap.specs.View.{View, HasBorder}
@@ -63,7 +64,7 @@ usable = record {
   stores = λ at low high. grind (arith, nat_tests);
 }
 
-cell_at : (at : ℕ) → 64 ≤ at → at < 192 → at % 32 ≡ 0 → IsCell pool at
+cell_at : (at : ℕ) → 64 ≤ at → at < 192 → at % cell_size ≡ 0 → IsCell pool at
 cell_at at low high whole = record { behind = low; before = high; aligned = whole }
 
 shown : IsShown pool memory heap

@@ -5,6 +5,7 @@ use Rattle.std.proofs.lemmas.Bool.Decides.{nat_tests}
 use Rattle.kk_base.specs.Memory.{Part}
 use Rattle.rv_isa.specs.Bytes.{with_number, Apart}
 use Rattle.rv_isa.proofs.Memory.{word-apart, number_at-one, number_at-apart}
+use Rattle.rv_isa.specs.Numbers.{cell_size}
 use Rattle.cell_heap.proofs.Sums.{occurs-none, occurs-first, occurs-later}
 use Rattle.cell_heap.specs.Cells.{Body, Cell, no_cell, free, token, waiting, counted, Heap, changed, occurs}
 use Rattle.cell_heap.specs.Pool.{Pool, end_of, IsCell}
@@ -37,7 +38,7 @@ pub record SameWords (old new : ℕ → ℕ) (from to : ℕ) : Type 0 where
 
 -- all words are the same but those of one cell
 pub record SameBut (old new : ℕ → ℕ) (at : ℕ) : Type 0 where
-  pub same : (x : ℕ) → (x + 4 ≤ at) ⊎ (at + 32 ≤ x) → word new x ≡ word old x
+  pub same : (x : ℕ) → (x + 4 ≤ at) ⊎ (at + cell_size ≤ x) → word new x ≡ word old x
 
 pub HasWords-same : (old new : ℕ → ℕ) (at to : ℕ) (xs : List ℕ) → SameWords old new at to → at + 4 * length xs ≤ to → HasWords old at xs → HasWords new at xs
 HasWords-same old new at to [] same within has = tt
@@ -47,7 +48,7 @@ HasWords-same old new at to (x ∷ xs) same within has =
       HasWords-same old new (at + 4) to xs record { same = λ y low high. same.same y (omega arith) high } (omega arith) has.1,
     )
 
-pub HasBody-same : (old new : ℕ → ℕ) (at : ℕ) (body : Body) → SameWords old new (at + 4) (at + 32) → HasBody old at body → HasBody new at body
+pub HasBody-same : (old new : ℕ → ℕ) (at : ℕ) (body : Body) → SameWords old new (at + 4) (at + cell_size) → HasBody old at body → HasBody new at body
 HasBody-same old new at body same has =
     let few = has.few in
     record {
@@ -55,16 +56,16 @@ HasBody-same old new at body same has =
       tag = has.tag;
       mask = has.mask;
       few = has.few;
-      fields = HasWords-same old new (at + 8) (at + 32) body.fields record { same = λ y low high. same.same y (omega arith) high } (omega arith) has.fields;
+      fields = HasWords-same old new (at + 8) (at + cell_size) body.fields record { same = λ y low high. same.same y (omega arith) high } (omega arith) has.fields;
     }
 
-pub Shows-same : (pool : Pool) (old new : ℕ → ℕ) (at : ℕ) (cell : Cell) → (IsCell pool at → SameWords old new at (at + 32)) → Shows pool old at cell → Shows pool new at cell
+pub Shows-same : (pool : Pool) (old new : ℕ → ℕ) (at : ℕ) (cell : Cell) → (IsCell pool at → SameWords old new at (at + cell_size)) → Shows pool old at cell → Shows pool new at cell
 Shows-same pool old new at no_cell same shows = shows
 Shows-same pool old new at free same shows = shows
 Shows-same pool old new at (token fields) same shows =
     let words = same shows.0 in
     let few = shows.1 in
-    (shows.0, shows.1, HasWords-same old new (at + 8) (at + 32) fields record { same = λ y low high. words.same y (omega arith) high } (omega arith) shows.2)
+    (shows.0, shows.1, HasWords-same old new (at + 8) (at + cell_size) fields record { same = λ y low high. words.same y (omega arith) high } (omega arith) shows.2)
 Shows-same pool old new at (waiting body) same shows =
     let words = same shows.0 in
     (shows.0, HasBody-same old new at body record { same = λ y low high. words.same y (omega arith) high } shows.1)
@@ -91,11 +92,12 @@ shows-at {pool} {memory} {heap} shown at cell is = subst (λ c. Shows pool memor
 -- ---- a change of one cell
 
 -- a word of another cell is none of this one's
-other-cell : (x at y : ℕ) → x % 32 ≡ 0 → at % 32 ≡ 0 → x ≢ at → x ≤ y → y + 4 ≤ x + 32 → (y + 4 ≤ at) ⊎ (at + 32 ≤ y)
+other-cell : (x at y : ℕ) → x % cell_size ≡ 0 → at % cell_size ≡ 0 → x ≢ at → x ≤ y → y + 4 ≤ x + cell_size
+    → (y + 4 ≤ at) ⊎ (at + cell_size ≤ y)
 other-cell x at y x_aligned at_aligned differ low high =
     elim (cases_lt x at) [ inl below ↦ inl (omega arith) | inr above ↦ inr (omega arith) ]
 
-pub SameWords-but : {pool : Pool} {old new : ℕ → ℕ} {at : ℕ} → SameBut old new at → IsCell pool at → (x : ℕ) → x ≢ at → IsCell pool x → SameWords old new x (x + 32)
+pub SameWords-but : {pool : Pool} {old new : ℕ → ℕ} {at : ℕ} → SameBut old new at → IsCell pool at → (x : ℕ) → x ≢ at → IsCell pool x → SameWords old new x (x + cell_size)
 SameWords-but {pool} {old} {new} {at} but cell x differ other = record {
   same = λ y low high. but.same y (other-cell x at y other.aligned cell.aligned differ low high);
 }
@@ -134,10 +136,10 @@ not-token-free (waiting body) is_token e = is_token
 not-token-free (counted count body) is_token e = is_token
 
 -- a slot lies outside of each cell
-pub slot-apart : (pool : Pool) (parts : List Part) (slot at : ℕ) → pool.first % 32 ≡ 0 → IsSlot pool parts slot → IsCell pool at → (slot + 4 ≤ at) ⊎ (at + 32 ≤ slot)
+pub slot-apart : (pool : Pool) (parts : List Part) (slot at : ℕ) → pool.first % cell_size ≡ 0 → IsSlot pool parts slot → IsCell pool at → (slot + 4 ≤ at) ⊎ (at + cell_size ≤ slot)
 slot-apart pool parts slot at aligned is_slot cell = by-side is_slot.apart
   where
-    by-side : (slot + 4 ≤ pool.first) ⊎ (end_of pool ≤ slot) → (slot + 4 ≤ at) ⊎ (at + 32 ≤ slot)
+    by-side : (slot + 4 ≤ pool.first) ⊎ (end_of pool ≤ slot) → (slot + 4 ≤ at) ⊎ (at + cell_size ≤ slot)
     by-side (inl before) = let low = cell.behind in inl (omega arith)
     by-side (inr behind) = let high = cell.before in let here = cell.aligned in inr (omega arith)
 
@@ -145,7 +147,7 @@ pub IsHeld-cell : {pool : Pool} {parts : List Part} {memory : ℕ → ℕ} {heap
 IsHeld-cell {pool} {parts} {memory} {heap} {link} shown held =
     shown-cell shown link.cell (heap link.cell) refl (not-token-free (heap link.cell) held.is_token)
 
-pub IsHeldChain-changed : {pool : Pool} (parts : List Part) {old new : ℕ → ℕ} {heap : Heap} (at : ℕ) (cell : Cell) → pool.first % 32 ≡ 0 → IsShown pool old heap → IsCell pool at → SameBut old new at
+pub IsHeldChain-changed : {pool : Pool} (parts : List Part) {old new : ℕ → ℕ} {heap : Heap} (at : ℕ) (cell : Cell) → pool.first % cell_size ≡ 0 → IsShown pool old heap → IsCell pool at → SameBut old new at
     → (from : ℕ) (links : List Link) → occurs at (map (λ l. l.cell) links) ≡ 0 → IsHeldChain pool parts old heap from links → IsHeldChain pool parts new (changed at cell heap) from links
 IsHeldChain-changed parts at cell aligned shown is_cell but from [] none chain = chain
 IsHeldChain-changed {pool} parts {old} {new} {heap} at cell aligned shown is_cell but from (link ∷ links) none chain =
@@ -174,20 +176,20 @@ pub record SameInside (pool : Pool) (old new : ℕ → ℕ) : Type 0 where
   pub same : (x : ℕ) → pool.first ≤ x → x + 4 ≤ end_of pool → word new x ≡ word old x
 
 -- all words of a cell are inside
-pub cell-inside : (pool : Pool) (at : ℕ) → pool.first % 32 ≡ 0 → IsCell pool at → at + 32 ≤ end_of pool
+pub cell-inside : (pool : Pool) (at : ℕ) → pool.first % cell_size ≡ 0 → IsCell pool at → at + cell_size ≤ end_of pool
 cell-inside pool at aligned cell = let high = cell.before in let here = cell.aligned in omega arith
 
-pub SameWords-inside : {pool : Pool} {old new : ℕ → ℕ} → pool.first % 32 ≡ 0 → SameInside pool old new → (at : ℕ) → IsCell pool at → SameWords old new at (at + 32)
+pub SameWords-inside : {pool : Pool} {old new : ℕ → ℕ} → pool.first % cell_size ≡ 0 → SameInside pool old new → (at : ℕ) → IsCell pool at → SameWords old new at (at + cell_size)
 SameWords-inside {pool} aligned inside at cell = record {
   same = λ y low high. let end = cell-inside pool at aligned cell in let begin = cell.behind in inside.same y (omega arith) (omega arith);
 }
 
-pub IsShown-outside : {pool : Pool} {old new : ℕ → ℕ} {heap : Heap} → pool.first % 32 ≡ 0 → SameInside pool old new → IsShown pool old heap → IsShown pool new heap
+pub IsShown-outside : {pool : Pool} {old new : ℕ → ℕ} {heap : Heap} → pool.first % cell_size ≡ 0 → SameInside pool old new → IsShown pool old heap → IsShown pool new heap
 IsShown-outside {pool} {old} {new} {heap} aligned inside shown = record {
   cell = λ x. Shows-same pool old new x (heap x) (SameWords-inside aligned inside x) (shown.cell x);
 }
 
-pub IsChain-outside : {pool : Pool} {old new : ℕ → ℕ} {heap : Heap} → pool.first % 32 ≡ 0 → SameInside pool old new → IsShown pool old heap
+pub IsChain-outside : {pool : Pool} {old new : ℕ → ℕ} {heap : Heap} → pool.first % cell_size ≡ 0 → SameInside pool old new → IsShown pool old heap
     → (from : ℕ) (cells : List ℕ) → IsChain old heap from cells → IsChain new heap from cells
 IsChain-outside aligned inside shown from [] chain = chain
 IsChain-outside {pool} {old} {new} {heap} aligned inside shown from (first ∷ cells) chain =
@@ -200,7 +202,7 @@ IsChain-outside {pool} {old} {new} {heap} aligned inside shown from (first ∷ c
 pub record SameSlots (old new : ℕ → ℕ) (links : List Link) : Type 0 where
   pub same : (slot : ℕ) → occurs slot (map (λ l. l.slot) links) ≢ 0 → word new slot ≡ word old slot
 
-pub IsHeldChain-outside : {pool : Pool} (parts : List Part) {old new : ℕ → ℕ} {heap : Heap} → pool.first % 32 ≡ 0 → SameInside pool old new → IsShown pool old heap
+pub IsHeldChain-outside : {pool : Pool} (parts : List Part) {old new : ℕ → ℕ} {heap : Heap} → pool.first % cell_size ≡ 0 → SameInside pool old new → IsShown pool old heap
     → (from : ℕ) (links : List Link) → SameSlots old new links → IsHeldChain pool parts old heap from links → IsHeldChain pool parts new heap from links
 IsHeldChain-outside parts aligned inside shown from [] slots chain = chain
 IsHeldChain-outside {pool} parts {old} {new} {heap} aligned inside shown from (link ∷ links) slots chain =
@@ -224,11 +226,12 @@ IsHeldChain-outside {pool} parts {old} {new} {heap} aligned inside shown from (l
 -- ---- one store
 
 -- a store of a word of a cell changes that cell alone
-pub SameBut-store : (memory : ℕ → ℕ) (at to n : ℕ) → at ≤ to → to + 4 ≤ at + 32 → SameBut memory (with_number to 4 n memory) at
+pub SameBut-store : (memory : ℕ → ℕ) (at to n : ℕ) → at ≤ to → to + 4 ≤ at + cell_size
+    → SameBut memory (with_number to 4 n memory) at
 SameBut-store memory at to n low high =
     record { same = λ x apart. word-apart to n memory x (apart-word x apart) }
   where
-    apart-word : (x : ℕ) → (x + 4 ≤ at) ⊎ (at + 32 ≤ x) → Apart to 4 x 4
+    apart-word : (x : ℕ) → (x + 4 ≤ at) ⊎ (at + cell_size ≤ x) → Apart to 4 x 4
     apart-word x (inl before) = inl (omega arith)
     apart-word x (inr behind) = inr (omega arith)
 

@@ -6,6 +6,7 @@ use Rattle.cell_heap.specs.Cells.{free, Heap, occurs}
 use Rattle.cell_heap.specs.Pool.{Pool, end_of, IsCell, IsUsable}
 use Rattle.rv_isa.specs.FreeCells.{chain as image_chain, border as image_border, border_size, cells_from, free_list}
 use Rattle.rv_isa.specs.Processor.{Processor, value, can_load, lies_in_part}
+use Rattle.rv_isa.specs.Numbers.{cell_size}
 use Rattle.kk_base.specs.Memory.{Part, covers}
 use Rattle.cell_heap.specs.View.{View, HasBorder}
 use Rattle.cell_heap.specs.Memory.{word, IsShown, IsChain, Memory}
@@ -35,11 +36,11 @@ IsChain-once memory heap from (first ∷ cells) chain x =
 
 -- how many cells were never used
 abbrev pub fresh_cells : Pool → ℕ → ℕ
-fresh_cells pool border = (end_of pool - border) / 32
+fresh_cells pool border = (end_of pool - border) / cell_size
 
 -- each free cell is listed once, and no other address
-module _ (pool : Pool) (memory : ℕ → ℕ) (view : View) (from : ℕ) (aligned : pool.first % 32 ≡ 0) (shown : IsShown pool memory view.heap) (chain : IsChain memory view.heap from view.frees) (has : HasBorder pool view) where
-  whole-border : view.border + 32 * fresh_cells pool view.border ≡ end_of pool
+module _ (pool : Pool) (memory : ℕ → ℕ) (view : View) (from : ℕ) (aligned : pool.first % cell_size ≡ 0) (shown : IsShown pool memory view.heap) (chain : IsChain memory view.heap from view.frees) (has : HasBorder pool view) where
+  whole-border : view.border + cell_size * fresh_cells pool view.border ≡ end_of pool
   whole-border = let within = has.within in let whole = has.aligned in omega arith
 
   fresh-once : (x : ℕ) → IsCell pool x → view.border ≤ x → occurs x (cells_from view.border (fresh_cells pool view.border)) ≡ 1
@@ -84,12 +85,12 @@ module _ (pool : Pool) (memory : ℕ → ℕ) (view : View) (from : ℕ) (aligne
       ]
 
   -- there are no more of them than cells
-  chain-few : length view.frees ≤ (view.border - pool.first) / 32
+  chain-few : length view.frees ≤ (view.border - pool.first) / cell_size
   chain-few =
       let behind = has.behind in
       let whole = has.aligned in
-      let n = (view.border - pool.first) / 32 in
-      let size : pool.first + 32 * n ≡ view.border = omega arith in
+      let n = (view.border - pool.first) / cell_size in
+      let size : pool.first + cell_size * n ≡ view.border = omega arith in
       let most = total-at_most (λ p. occurs p view.frees) (cells_from pool.first n) (IsChain-once memory view.heap from view.frees chain) in
       let count = length-cells_from pool.first n in
       let sum = length-total view.frees (cells_from pool.first n) (λ x some.
@@ -140,7 +141,8 @@ take-all (suc n) [] few = refl
 take-all zero (x ∷ xs) few = absurd (omega arith)
 take-all (suc n) (x ∷ xs) few = ap (λ ys. x ∷ ys) (take-all n xs (omega arith))
 
-border-size : (low high : ℕ) → low % 32 ≡ 0 → high % 32 ≡ 0 → low ≤ high → border_size low high ≡ (high - low) / 32
+border-size : (low high : ℕ) → low % cell_size ≡ 0 → high % cell_size ≡ 0 → low ≤ high
+    → border_size low high ≡ (high - low) / cell_size
 border-size low high low_whole high_whole within = grind (arith, nat_tests)
 
 -- where memory has the cells of a view, the free cells of the image are the view's
@@ -151,7 +153,7 @@ free_list-is {pool} {view} {s} memory =
     let few = listed-few pool s.memory view (value s.registers 8) aligned memory.shown memory.chain has in
     let sum = length-append view.frees (cells_from view.border (fresh_cells pool view.border)) in
     let chain_is = chain-is pool s.parts s.memory view.heap memory.usable memory.shown pool.cells (value s.registers 8) view.frees memory.chain (omega arith) in
-    let high : end_of pool % 32 ≡ 0 = omega arith in
+    let high : end_of pool % cell_size ≡ 0 = omega arith in
     let size : border_size (value s.registers 18) (value s.registers 19) ≡ fresh_cells pool view.border = ap (λ n. border_size n (value s.registers 19)) memory.border ∙ ap (border_size view.border) memory.end ∙ border-size view.border (end_of pool) has.aligned high has.within in
     let border_is : image_border s ≡ cells_from view.border (fresh_cells pool view.border) = ap (λ n. cells_from n (border_size (value s.registers 18) (value s.registers 19))) memory.border ∙ ap (cells_from view.border) size in
     ap (λ cells. take pool.cells (cells ++ image_border s)) chain_is ∙ ap (λ cells. take pool.cells (view.frees ++ cells)) border_is ∙ take-all pool.cells (view.frees ++ cells_from view.border (fresh_cells pool view.border)) few

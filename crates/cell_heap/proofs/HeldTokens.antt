@@ -3,6 +3,7 @@ use Rattle.std.proofs.Common.{◌≡◌, ◌≢◌, ◌≤◌, ◌<◌, ℕ, ◌
 use Rattle.std.proofs.lemmas.Bool.{cases_lt}
 use Rattle.kk_base.specs.Memory.{Part}
 use Rattle.rv_isa.proofs.Memory.{number_at-same}
+use Rattle.rv_isa.specs.Numbers.{cell_size}
 use Rattle.cell_heap.specs.Cells.{Body, Cell, no_cell, free, token, waiting, counted, Heap}
 use Rattle.cell_heap.specs.Pool.{Pool, IsCell}
 use Rattle.cell_heap.specs.View.{Link}
@@ -18,15 +19,16 @@ token-counted (token fields) is_token count body e = cc
 token-counted (waiting body) is_token count other e = is_token
 token-counted (counted n body) is_token count other e = is_token
 
-module _ {pool : Pool} {old new : ℕ → ℕ} {heap end : Heap} (first_aligned : pool.first % 32 ≡ 0) (shown : IsShown pool old heap) (left : IsLeft heap end) (others : (x : ℕ) → IsNoCount heap x → new x ≡ old x) where
+module _ {pool : Pool} {old new : ℕ → ℕ} {heap end : Heap} (first_aligned : pool.first % cell_size ≡ 0) (shown : IsShown pool old heap) (left : IsLeft heap end) (others : (x : ℕ) → IsNoCount heap x → new x ≡ old x) where
   -- a word of a cell that is not counted
-  apart-cell : (cell at x : ℕ) → IsCell pool cell → IsCell pool at → cell ≢ at → cell ≤ x → x < cell + 32 → (x < at) ⊎ (at + 4 ≤ x)
+  apart-cell : (cell at x : ℕ) → IsCell pool cell → IsCell pool at → cell ≢ at → cell ≤ x → x < cell + cell_size
+      → (x < at) ⊎ (at + 4 ≤ x)
   apart-cell cell at x is_cell at_cell differ low high =
       let a = is_cell.aligned in
       let b = at_cell.aligned in
       elim (cases_lt cell at) [ inl below ↦ inl (omega arith) | inr above ↦ inr (grind arith) ]
 
-  word-kept : (cell x : ℕ) → IsCell pool cell → ((count : ℕ) (body : Body) → heap cell ≢ counted count body) → cell ≤ x → x + 4 ≤ cell + 32 → word new x ≡ word old x
+  word-kept : (cell x : ℕ) → IsCell pool cell → ((count : ℕ) (body : Body) → heap cell ≢ counted count body) → cell ≤ x → x + 4 ≤ cell + cell_size → word new x ≡ word old x
   word-kept cell x is_cell other low high =
       number_at-same new old x 4 (λ y from to. others y (λ at count body is.
       apart-cell cell at y is_cell (shown-cell shown at (counted count body) is (counted-some count body))

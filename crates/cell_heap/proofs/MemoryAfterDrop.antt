@@ -5,6 +5,7 @@ use Rattle.std.proofs.lemmas.Bool.{cases_eq, cases_lt}
 use Rattle.std.proofs.lemmas.Bool.Decides.{nat_tests}
 use Rattle.rv_isa.specs.Processor.{Processor}
 use Rattle.rv_isa.proofs.Memory.{number_at-same}
+use Rattle.rv_isa.specs.Numbers.{cell_size}
 use Rattle.cell_heap.specs.Cells.{Body, Cell, no_cell, free, token, waiting, counted}
 use Rattle.cell_heap.specs.Pool.{Pool, IsCell}
 use Rattle.cell_heap.specs.View.{Link}
@@ -59,7 +60,8 @@ merged-own (waiting body) block is_own = is_own
 
 -- ---- the words that are known then
 
-other_cell : (pool : Pool) (x at z : ℕ) → IsCell pool x → IsCell pool at → x ≢ at → x ≤ z → z < x + 32 → (z < at) ⊎ (at + 4 ≤ z)
+other_cell : (pool : Pool) (x at z : ℕ) → IsCell pool x → IsCell pool at → x ≢ at → x ≤ z → z < x + cell_size
+    → (z < at) ⊎ (at + 4 ≤ z)
 other_cell pool x at z cell other differ low high =
     let a = cell.aligned in
     let b = other.aligned in
@@ -70,7 +72,7 @@ other_word words count i = let test : nat_eq (suc i) 0 ≡ false = grind (arith,
 
 module _ {pool : Pool} {cells : Cells} {links : List Link} {s : Processor} (t : Processor) (holds : HoldsCells pool cells links s) (others : (x : ℕ) → IsNoCount (seen_cells cells) x → t.memory x ≡ s.memory x) where
   -- all words of a cell but its first
-  behind : (x y : ℕ) → IsCell pool x → x + 4 ≤ y → y + 4 ≤ x + 32 → word t.memory y ≡ word s.memory y
+  behind : (x y : ℕ) → IsCell pool x → x + 4 ≤ y → y + 4 ≤ x + cell_size → word t.memory y ≡ word s.memory y
   behind x y cell low high =
       number_at-same t.memory s.memory y 4 (λ z from to. others z (λ at count body is.
       elim (cases_eq x at) [
@@ -79,7 +81,7 @@ module _ {pool : Pool} {cells : Cells} {links : List Link} {s : Processor} (t : 
       ]))
 
   -- and all of one that is not counted
-  uncounted : (x y : ℕ) → IsCell pool x → ((count : ℕ) (body : Body) → seen_cells cells x ≢ counted count body) → x ≤ y → y + 4 ≤ x + 32 → word t.memory y ≡ word s.memory y
+  uncounted : (x y : ℕ) → IsCell pool x → ((count : ℕ) (body : Body) → seen_cells cells x ≢ counted count body) → x ≤ y → y + 4 ≤ x + cell_size → word t.memory y ≡ word s.memory y
   uncounted x y cell not_counted low high =
       number_at-same t.memory s.memory y 4 (λ z from to. others z (λ at count body is.
       other_cell pool x at z cell (shown-cell holds.memory.shown at (counted count body) is (counted-some count body))

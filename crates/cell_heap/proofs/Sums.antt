@@ -4,6 +4,7 @@ use Rattle.std.proofs.lemmas.Bool.{cases_eq}
 use Rattle.std.proofs.lemmas.Bool.Decides.{nat_tests}
 use Rattle.cell_heap.specs.Cells.{occurs}
 use Rattle.rv_isa.specs.FreeCells.{cells_from}
+use Rattle.rv_isa.specs.Numbers.{cell_size}
 use Rattle.cell_heap.specs.Counts.{total}
 
 -- ---- members
@@ -38,20 +39,23 @@ occurs-by x y ys some =
 pub occurs-below : (x at count : ℕ) → x < at → occurs x (cells_from at count) ≡ 0
 occurs-below x at zero below = refl
 occurs-below x at (suc count) below =
-    occurs-other x at (cells_from (at + 32) count) (λ e. omega arith) ∙ occurs-below x (at + 32) count (omega arith)
+    occurs-other x at (cells_from (at + cell_size) count) (λ e. omega arith) ∙ occurs-below x (at + cell_size) count (omega arith)
 
-a_cell_more : (at x : ℕ) → at ≤ x → (x ≡ at → ⊥) → at % 32 ≡ x % 32 → at + 32 ≤ x
+a_cell_more : (at x : ℕ) → at ≤ x → (x ≡ at → ⊥) → at % cell_size ≡ x % cell_size → at + cell_size ≤ x
 a_cell_more at x low differ aligned = grind arith
 
 -- each cell of a pool is one of its places, once
-pub occurs-cells : (x at count : ℕ) → at ≤ x → x < at + 32 * count → at % 32 ≡ x % 32 → occurs x (cells_from at count) ≡ 1
+pub occurs-cells : (x at count : ℕ) → at ≤ x → x < at + cell_size * count → at % cell_size ≡ x % cell_size
+    → occurs x (cells_from at count) ≡ 1
 occurs-cells x at zero low high aligned = omega arith
 occurs-cells x at (suc count) low high aligned =
     elim (cases_eq x at) [
-      | inl e ↦ occurs-same x at (cells_from (at + 32) count) e ∙ ap suc (occurs-below x (at + 32) count (omega arith))
+      | inl e ↦
+          occurs-same x at (cells_from (at + cell_size) count) e
+          ∙ ap suc (occurs-below x (at + cell_size) count (omega arith))
       | inr differ ↦
-          occurs-other x at (cells_from (at + 32) count) differ
-          ∙ occurs-cells x (at + 32) count (a_cell_more at x low differ aligned) (omega arith) (omega arith)
+          occurs-other x at (cells_from (at + cell_size) count) differ
+          ∙ occurs-cells x (at + cell_size) count (a_cell_more at x low differ aligned) (omega arith) (omega arith)
     ]
 
 -- ---- sums

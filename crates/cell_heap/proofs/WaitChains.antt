@@ -6,6 +6,7 @@ use Rattle.kk_base.specs.Limits.{greatest_of}
 use Rattle.kk_base.specs.declared.limit.LimitKind.TheVariants.{Fields}
 use Rattle.rv_isa.specs.Bytes.{with_number, Apart}
 use Rattle.rv_isa.proofs.Memory.{word-same, word-apart}
+use Rattle.rv_isa.specs.Numbers.{cell_size}
 use Rattle.cell_heap.specs.Cells.{Body, Cell, free, waiting, counted, Heap, changed, occurs}
 use Rattle.cell_heap.specs.Pool.{Pool, end_of, IsCell, IsUsable}
 use Rattle.cell_heap.specs.Memory.{word, HasWords, HasBody, Shows, IsShown, IsChain}
@@ -83,7 +84,7 @@ waiting-free : (heap : Heap) (at : ℕ) (body : Body) → heap at ≡ waiting bo
 waiting-free heap at body is e = cc
 
 -- the words behind the first one stay
-pub SameWords-first : (memory : ℕ → ℕ) (at n : ℕ) → SameWords memory (with_number at 4 n memory) (at + 4) (at + 32)
+pub SameWords-first : (memory : ℕ → ℕ) (at n : ℕ) → SameWords memory (with_number at 4 n memory) (at + 4) (at + cell_size)
 SameWords-first memory at n = record { same = λ x low high. word-apart at n memory x (inr low) }
 
 module _ {pool : Pool} {parts : List Part} {memory : ℕ → ℕ} {heap : Heap} {free_at wait_at : ℕ} {frees waits : List ℕ} (cells : AreCells pool parts memory heap free_at frees wait_at waits) where
@@ -160,9 +161,9 @@ module _ {pool : Pool} {parts : List Part} {memory : ℕ → ℕ} {heap : Heap} 
 abbrev pub AreFields : Pool → (ℕ → ℕ) → ℕ → List ℕ → Type 0
 AreFields pool memory at [] = Unit {0}
 AreFields pool memory at (x ∷ xs) =
-    (word memory at ≡ x) × (at % 4 ≡ 0) × (8 ≤ at % 32) × (pool.first ≤ at) × (at + 4 ≤ end_of pool) × AreFields pool memory (at + 4) xs
+    (word memory at ≡ x) × (at % 4 ≡ 0) × (8 ≤ at % cell_size) × (pool.first ≤ at) × (at + 4 ≤ end_of pool) × AreFields pool memory (at + 4) xs
 
-fields-from : (pool : Pool) (memory : ℕ → ℕ) (cell : ℕ) → pool.first % 32 ≡ 0 → IsCell pool cell → (k : ℕ) (xs : List ℕ) → k + length xs ≤ greatest_of Fields → HasWords memory (cell + 8 + 4 * k) xs → AreFields pool memory (cell + 8 + 4 * k) xs
+fields-from : (pool : Pool) (memory : ℕ → ℕ) (cell : ℕ) → pool.first % cell_size ≡ 0 → IsCell pool cell → (k : ℕ) (xs : List ℕ) → k + length xs ≤ greatest_of Fields → HasWords memory (cell + 8 + 4 * k) xs → AreFields pool memory (cell + 8 + 4 * k) xs
 fields-from pool memory cell first_aligned is_cell k [] few words = tt
 fields-from pool memory cell first_aligned is_cell k (x ∷ xs) few words =
     let low = is_cell.behind in
@@ -172,7 +173,7 @@ fields-from pool memory cell first_aligned is_cell k (x ∷ xs) few words =
     let rest = fields-from pool memory cell first_aligned is_cell (suc k) xs (omega arith) (subst (λ a. HasWords memory a xs) next words.1) in
     (words.0, omega arith, omega arith, omega arith, omega arith, subst (λ a. AreFields pool memory a xs) (sym next) rest)
 
-pub AreFields-body : (pool : Pool) (memory : ℕ → ℕ) (cell : ℕ) (body : Body) → pool.first % 32 ≡ 0 → IsCell pool cell → HasBody memory cell body → AreFields pool memory (cell + 8) body.fields
+pub AreFields-body : (pool : Pool) (memory : ℕ → ℕ) (cell : ℕ) (body : Body) → pool.first % cell_size ≡ 0 → IsCell pool cell → HasBody memory cell body → AreFields pool memory (cell + 8) body.fields
 AreFields-body pool memory cell body first_aligned is_cell has =
     let few = has.few in
     let here : cell + 8 ≡ cell + 8 + 4 * 0 = omega arith in
@@ -180,11 +181,11 @@ AreFields-body pool memory cell body first_aligned is_cell has =
     (fields-from pool memory cell first_aligned is_cell 0 body.fields (omega arith) (subst (λ a. HasWords memory a body.fields) here has.fields))
 
 -- a store of the first word of a cell changes no field
-field-apart : (cell at : ℕ) → cell % 32 ≡ 0 → at % 4 ≡ 0 → 8 ≤ at % 32 → Apart cell 4 at 4
+field-apart : (cell at : ℕ) → cell % cell_size ≡ 0 → at % 4 ≡ 0 → 8 ≤ at % cell_size → Apart cell 4 at 4
 field-apart cell at cell_aligned aligned behind =
     elim (cases_lt cell at) [ inl below ↦ inr (omega arith) | inr above ↦ inl (omega arith) ]
 
-pub AreFields-first : (pool : Pool) (memory : ℕ → ℕ) (cell n : ℕ) → cell % 32 ≡ 0 → (at : ℕ) (xs : List ℕ) → AreFields pool memory at xs → AreFields pool (with_number cell 4 n memory) at xs
+pub AreFields-first : (pool : Pool) (memory : ℕ → ℕ) (cell n : ℕ) → cell % cell_size ≡ 0 → (at : ℕ) (xs : List ℕ) → AreFields pool memory at xs → AreFields pool (with_number cell 4 n memory) at xs
 AreFields-first pool memory cell n aligned at [] fields = tt
 AreFields-first pool memory cell n aligned at (x ∷ xs) fields = (
   word-apart cell n memory at (field-apart cell at aligned fields.1 fields.2) ∙ fields.0,

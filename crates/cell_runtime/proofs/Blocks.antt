@@ -7,6 +7,7 @@ use Rattle.std.proofs.lemmas.Bool.Decides.{nat_tests}
 use Rattle.rv_isa.specs.Processor.{Processor, value}
 use Rattle.rv_isa.specs.Standing.{Code}
 use Rattle.rv_isa.proofs.Memory.{number_at-same}
+use Rattle.rv_isa.specs.Numbers.{cell_size}
 use Rattle.cell_heap.specs.Cells.{no_cell, free, token, changed, occurs}
 use Rattle.cell_heap.specs.Pool.{Pool, end_of, IsCell}
 use Rattle.cell_heap.specs.View.{Link, View}
@@ -95,7 +96,7 @@ module _ {pool : Pool} {cells : Cells} {links : List Link} {s t : Processor} (ho
   -- the first cell that was never used
   fresh_taken : cells.frees ≡ [] → cells.border < end_of pool
       → Memory pool (record (view_of cells links)
-      { heap = changed cells.border (token []) (seen_cells cells); border = cells.border + 32 }) t → t.memory ≡ s.memory
+      { heap = changed cells.border (token []) (seen_cells cells); border = cells.border + cell_size }) t → t.memory ≡ s.memory
       → TakenBlock pool cells links t cells.border None
   fresh_taken none below memory same =
       let at = cells.border in
@@ -104,12 +105,13 @@ module _ {pool : Pool} {cells : Cells} {links : List Link} {s t : Processor} (ho
       let is_free = border.fresh at is_cell (omega arith) in
       let test : nat_lt at (end_of pool) ≡ true = grind (arith, nat_tests) in
       let empty = subst (λ fs. Memory pool
-      (record { heap = changed at (token []) (seen_cells cells); frees = fs; border = at + 32; held = links }) t) none memory in
-      of_free (takes at [] (at + 32) cells)
+      (record { heap = changed at (token []) (seen_cells cells); frees = fs; border = at + cell_size; held = links }) t) none
+      memory in
+      of_free (takes at [] (at + cell_size) cells)
       (λ top. ap (λ fs. request_by pool fs top cells) none
-      ∙ ap (λ b. if b then Some (at, takes at [] (at + 32) cells, false) else option_map
+      ∙ ap (λ b. if b then Some (at, takes at [] (at + cell_size) cells, false) else option_map
       (λ x. (x, takes x [] at cells, true)) top) test)
-      (given_holds holds at [] (at + 32) (given_view cells at [] (at + 32) links empty) (same_inside pool s t same)
+      (given_holds holds at [] (at + cell_size) (given_view cells at [] (at + cell_size) links empty) (same_inside pool s t same)
       (none_held pool s.parts s.memory (seen_cells cells) at (free-no-token (seen_cells cells at) is_free)
       (value s.registers 9) links holds.memory.held) (λ x none. none))
 
@@ -138,7 +140,7 @@ module _ {pool : Pool} {cells : Cells} {links : List Link} {s t : Processor} (ho
       let test : nat_lt cells.border (end_of pool) ≡ false = grind (arith, nat_tests) in
       of_link link left (takes at [] cells.border cells) newest
       (ap (λ fs. request_by pool fs (Some at) cells) none
-      ∙ ap (λ b. if b then Some (cells.border, takes cells.border [] (cells.border + 32) cells, false) else option_map
+      ∙ ap (λ b. if b then Some (cells.border, takes cells.border [] (cells.border + cell_size) cells, false) else option_map
       (λ x. (x, takes x [] cells.border cells, true)) (Some at)) test)
       (given_holds holds at [] cells.border (given_view cells at [] cells.border left empty) inside chain.2
       (λ x apart. (occurs-none x at (cells_of left) (subst (λ ls. occurs x (cells_of ls) ≡ 0) newest apart)).1))
@@ -221,7 +223,7 @@ held_holds {pool} {cells} {links} {s} {t} holds at slot words is memory keeps =
           (λ differ own_now. occurs-other x at (cells_of links) differ ∙ holds.apart x own_now);
     }
   where
-    beside : (x : ℕ) → (x + 4 ≤ at) ⊎ (at + 32 ≤ x) → (x + 4 ≤ at) ⊎ (at + 8 ≤ x)
+    beside : (x : ℕ) → (x + 4 ≤ at) ⊎ (at + cell_size ≤ x) → (x + 4 ≤ at) ⊎ (at + 8 ≤ x)
     beside x (inl before) = inl before
     beside x (inr behind) = inr (omega arith)
 
@@ -273,7 +275,7 @@ none_own false mine = mine
 pub start_holds : {pool : Pool} {t : Processor} → Memory pool (first_view pool) t → HoldsCells pool (unused_cells pool) [] t
 start_holds {pool} {t} memory = record {
   memory = subst (λ h. Memory pool (record { heap = h; frees = []; border = pool.first; held = [] }) t)
-      (fun_ext (λ at. sym (seen_unused (nat_le pool.first at && nat_lt at (end_of pool) && nat_eq (at % 32) 0)))) memory;
-  known = λ at. known_unused t.memory at (nat_le pool.first at && nat_lt at (end_of pool) && nat_eq (at % 32) 0);
-  apart = λ at mine. absurd (none_own (nat_le pool.first at && nat_lt at (end_of pool) && nat_eq (at % 32) 0) mine);
+      (fun_ext (λ at. sym (seen_unused (nat_le pool.first at && nat_lt at (end_of pool) && nat_eq (at % cell_size) 0)))) memory;
+  known = λ at. known_unused t.memory at (nat_le pool.first at && nat_lt at (end_of pool) && nat_eq (at % cell_size) 0);
+  apart = λ at mine. absurd (none_own (nat_le pool.first at && nat_lt at (end_of pool) && nat_eq (at % cell_size) 0) mine);
 }

@@ -5,6 +5,7 @@ use Rattle.std.proofs.lemmas.Bool.{cases_lt}
 use Rattle.rv_isa.specs.Bytes.{with_number, Apart}
 use Rattle.rv_isa.specs.Processor.{Processor, value}
 use Rattle.rv_isa.proofs.Memory.{word-apart}
+use Rattle.rv_isa.specs.Numbers.{cell_size}
 use Rattle.cell_heap.specs.Cells.{Body, Cell, no_cell, free, token, waiting, counted, Heap, changed, occurs}
 use Rattle.cell_heap.specs.Pool.{Pool, end_of, IsCell, IsUsable}
 use Rattle.cell_heap.specs.View.{Link, View, HasBorder}
@@ -120,7 +121,8 @@ module _ (pool : Pool) (view : View) (s t : Processor) (memory : Memory pool vie
     pub fresh_free : view.heap view.border ≡ free
     fresh_free = memory.has_border.fresh view.border fresh_cell (omega arith)
 
-    border_rises : HasBorder pool (record view { heap = changed view.border (token []) view.heap; border = view.border + 32 })
+    border_rises : HasBorder pool
+        (record view { heap = changed view.border (token []) view.heap; border = view.border + cell_size })
     border_rises =
         let border = memory.has_border in
         let aligned = border.aligned in
@@ -143,11 +145,12 @@ module _ (pool : Pool) (view : View) (s t : Processor) (memory : Memory pool vie
               );
         }
       where
-        below_old : (at : ℕ) → at % 32 ≡ 0 → view.border % 32 ≡ 0 → at < view.border + 32 → at ≢ view.border → at < view.border
+        below_old : (at : ℕ) → at % cell_size ≡ 0 → view.border % cell_size ≡ 0 → at < view.border + cell_size
+            → at ≢ view.border → at < view.border
         below_old at a b low differ = omega arith
 
-    pub memory_fresh : value t.registers 8 ≡ value s.registers 8 → value t.registers 18 ≡ view.border + 32
-        → Memory pool (record view { heap = changed view.border (token []) view.heap; border = view.border + 32 }) t
+    pub memory_fresh : value t.registers 8 ≡ value s.registers 8 → value t.registers 18 ≡ view.border + cell_size
+        → Memory pool (record view { heap = changed view.border (token []) view.heap; border = view.border + cell_size }) t
     memory_fresh first border = record {
       usable = subst (IsUsable pool) (sym parts) memory.usable;
       shown = given-shown pool view s t memory view.border fresh_free same parts;

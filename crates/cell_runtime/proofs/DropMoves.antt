@@ -6,6 +6,7 @@ use Rattle.rv_isa.specs.Processor.{Processor, value, put}
 use Rattle.rv_isa.specs.Environment.{stepped}
 use Rattle.rv_isa.specs.Standing.{Code, Has, Stands, LeadsIn}
 use Rattle.rv_isa.proofs.Standing.{LeadsIn-stands, LeadsIn-then}
+use Rattle.rv_isa.specs.Numbers.{cell_size}
 use Rattle.cell_heap.specs.Cells.{Body, Heap, free, waiting, counted, changed, chosen}
 use Rattle.cell_heap.specs.Pool.{Pool, end_of, IsCell}
 use Rattle.cell_heap.specs.Memory.{word}
@@ -99,13 +100,13 @@ same_opened most = omega arith
 not_first : (pool : Pool) (x : ℕ) → 0 < pool.first → IsCell pool x → x ≢ 0
 not_first pool x some cell e = let behind = cell.behind in omega arith
 
-fields_below : (pool : Pool) (x : ℕ) → x + 32 ≤ end_of pool → end_of pool < 2 ^ 32 → x + 8 < 2 ^ 32
+fields_below : (pool : Pool) (x : ℕ) → x + cell_size ≤ end_of pool → end_of pool < 2 ^ 32 → x + 8 < 2 ^ 32
 fields_below pool x inside below = omega arith
 
 header_behind : (pool : Pool) (x : ℕ) → IsCell pool x → pool.first ≤ x + 4
 header_behind pool x cell = let behind = cell.behind in omega arith
 
-header_inside : (pool : Pool) (x : ℕ) → x + 32 ≤ end_of pool → x + 4 + 4 ≤ end_of pool
+header_inside : (pool : Pool) (x : ℕ) → x + cell_size ≤ end_of pool → x + 4 + 4 ≤ end_of pool
 header_inside pool x inside = omega arith
 
 mask_of : (tag mask : ℕ) → tag < 256 → (tag + 256 * mask) / 256 ≡ mask

@@ -1,6 +1,7 @@
 -- The immediates and distances of the routines.
 use Rattle.std.proofs.Common.{◌-◌, ◌^◌, lit<, refl}
 use Rattle.kk_base.specs.Exits.{heap_full_exit}
+use Rattle.rv_isa.specs.Numbers.{cell_size}
 use Rattle.rv_isa.specs.declared.immediate.Immediate.{Immediate}
 use Rattle.rv_isa.specs.declared.immediate.BranchOffset.{BranchOffset}
 
@@ -16,8 +17,8 @@ imm_4 = record { word = 4; in_range = (lit< tt, lit< tt) }
 abbrev pub imm_10 : Immediate
 imm_10 = record { word = 10; in_range = (lit< tt, lit< tt) }
 
-abbrev pub imm_32 : Immediate
-imm_32 = record { word = 32; in_range = (lit< tt, lit< tt) }
+abbrev pub imm_cell_size : Immediate
+imm_cell_size = record { word = cell_size; in_range = (lit< tt, lit< tt) }
 
 abbrev pub imm_45 : Immediate
 imm_45 = record { word = 45; in_range = (lit< tt, lit< tt) }

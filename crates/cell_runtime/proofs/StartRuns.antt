@@ -24,6 +24,7 @@ use Rattle.cell_runtime.specs.Registers.{KeptBy}
 use Rattle.cell_runtime.specs.Lines.{Spells, Makes}
 use Rattle.cell_runtime.specs.Starts.{all_free, first_view, AfterStart, IsStartOf}
 use Rattle.rv_isa.proofs.Registers.{x0, x1, x2, x3, x8, x9, x18, x19}
+use Rattle.rv_isa.specs.Numbers.{cell_size}
 use Rattle.cell_runtime.proofs.Operands.{imm_0, imm_1}
 use Rattle.cell_runtime.proofs.Spelling.{plain, plain_is}
 use Rattle.cell_runtime.proofs.RoutineCalls.{then_one}
@@ -31,7 +32,7 @@ use Rattle.cell_runtime.specs.Sizes.{runtime_words}
 
 -- ---- the cells
 
-by-place : (P : Cell → Type 0) (pool : Pool) (at : ℕ) (low below whole : Bool) → nat_le pool.first at ≡ low → nat_lt at (end_of pool) ≡ below → nat_eq (at % 32) 0 ≡ whole
+by-place : (P : Cell → Type 0) (pool : Pool) (at : ℕ) (low below whole : Bool) → nat_le pool.first at ≡ low → nat_lt at (end_of pool) ≡ below → nat_eq (at % cell_size) 0 ≡ whole
     → (IsCell pool at → P free) → ((IsCell pool at → ⊥) → P no_cell) → P (if low && below && whole then free else no_cell)
 by-place P pool at true true true a b c is not = is record { behind = grind (arith, nat_tests); before = grind (arith, nat_tests); aligned = grind (arith, nat_tests) }
 by-place P pool at false below whole a b c is not = not (λ cell. let behind = cell.behind in absurd (grind (arith, nat_tests)))
@@ -40,7 +41,7 @@ by-place P pool at true true false a b c is not = not (λ cell. let aligned = ce
 
 -- an address is that of a free cell, or no cell's
 free-by : (P : Cell → Type 0) (pool : Pool) (at : ℕ) → (IsCell pool at → P free) → ((IsCell pool at → ⊥) → P no_cell) → P (all_free pool at)
-free-by P pool at is not = by-place P pool at (nat_le pool.first at) (nat_lt at (end_of pool)) (nat_eq (at % 32) 0) refl refl refl is not
+free-by P pool at is not = by-place P pool at (nat_le pool.first at) (nat_lt at (end_of pool)) (nat_eq (at % cell_size) 0) refl refl refl is not
 
 all_free-is : (pool : Pool) (at : ℕ) → IsCell pool at → all_free pool at ≡ free
 all_free-is pool at cell = free-by (λ c. c ≡ free) pool at (λ is. refl) (λ not. absurd (not cell))
@@ -48,7 +49,7 @@ all_free-is pool at cell = free-by (λ c. c ≡ free) pool at (λ is. refl) (λ 
 all_free-cell : (pool : Pool) (at : ℕ) → all_free pool at ≡ free → IsCell pool at
 all_free-cell pool at = free-by (λ c. c ≡ free → IsCell pool at) pool at (λ is e. is) (λ not e. cc)
 
-first_border : (pool : Pool) → pool.first % 32 ≡ 0 → HasBorder pool (first_view pool)
+first_border : (pool : Pool) → pool.first % cell_size ≡ 0 → HasBorder pool (first_view pool)
 first_border pool aligned = record {
   aligned = aligned;
   behind = omega arith;

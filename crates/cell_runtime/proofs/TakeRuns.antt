@@ -25,7 +25,8 @@ use Rattle.cell_runtime.specs.Calls.{HasWayBack, Exits}
 use Rattle.cell_runtime.specs.Lines.{Makes}
 use Rattle.cell_runtime.specs.Takes.{from_chain, at_border, from_held, IsFull, AfterTake, IsTakeOfPools}
 use Rattle.rv_isa.proofs.Registers.{x0, x1, x5, x8, x9, x10, x18, x19}
-use Rattle.cell_runtime.proofs.Operands.{imm_0, imm_4, imm_32, imm_heap_full, forward_16, forward_24}
+use Rattle.rv_isa.specs.Numbers.{cell_size}
+use Rattle.cell_runtime.proofs.Operands.{imm_0, imm_4, imm_cell_size, imm_heap_full, forward_16, forward_24}
 use Rattle.cell_runtime.proofs.Spelling.{plain, plain_makes}
 use Rattle.cell_runtime.proofs.RoutineCalls.{leads-back, then_one, exits-after, returns_by}
 use Rattle.cell_runtime.proofs.StopRuns.{stop_code, stop_exits}
@@ -36,7 +37,7 @@ held_code =
     Beq x9 x0 forward_24 ∷ Addi x10 x9 imm_0 ∷ Lw x5 x9 imm_4 ∷ Lw x9 x9 imm_0 ∷ Sw x5 x0 imm_0 ∷ Jalr x0 x1 imm_0 ∷ stop_code imm_heap_full
 
 abbrev pub border_code : List Instr
-border_code = Beq x18 x19 forward_16 ∷ Addi x10 x18 imm_0 ∷ Addi x18 x18 imm_32 ∷ Jalr x0 x1 imm_0 ∷ held_code
+border_code = Beq x18 x19 forward_16 ∷ Addi x10 x18 imm_0 ∷ Addi x18 x18 imm_cell_size ∷ Jalr x0 x1 imm_0 ∷ held_code
 
 abbrev pub take_code : List Instr
 take_code = Beq x8 x0 forward_16 ∷ Addi x10 x8 imm_0 ∷ Lw x8 x8 imm_0 ∷ Jalr x0 x1 imm_0 ∷ border_code
@@ -113,12 +114,12 @@ module _ (code : Code) (pool : Pool) (view : View) (s : Processor) (stands : Sta
         let aligned = memory.has_border.aligned in
         let differ : value s.registers 18 ≢ value s.registers 19 = λ e. absurd (omega arith) in
         let copied : sum_word (value s.registers 18) 0 ≡ view.border = rw border_is (omega arith) in
-        let risen : sum_word (value s.registers 18) 32 ≡ view.border + 32 = rw border_is (rises view.border pool.first pool.cells memory.usable.aligned aligned before below) in
+        let risen : sum_word (value s.registers 18) cell_size ≡ view.border + cell_size = rw border_is (rises view.border pool.first pool.cells memory.usable.aligned aligned before below) in
         let a = then_one stands to_border (λ on. leads-beq_not_taken on has_border.0 differ (next-is stands (s.pc + 4 + 4 + 4 + 4) _ has_border.1.0)) in
         let b = then_one stands a (λ on. leads-addi on {v = view.border} has_border.1.0 copied (next-is stands (s.pc + 4 + 4 + 4 + 4 + 4) _ has_border.1.1.0)) in
-        let c = then_one stands b (λ on. leads-addi on {v = view.border + 32} has_border.1.1.0 risen (next-is stands (s.pc + 4 + 4 + 4 + 4 + 4 + 4) _ has_border.1.1.1.0)) in
+        let c = then_one stands b (λ on. leads-addi on {v = view.border + cell_size} has_border.1.1.0 risen (next-is stands (s.pc + 4 + 4 + 4 + 4 + 4 + 4) _ has_border.1.1.1.0)) in
         let t = record s {
-          registers = put 18 (view.border + 32) (put 10 view.border s.registers);
+          registers = put 18 (view.border + cell_size) (put 10 view.border s.registers);
           pc = s.pc + 4 + 4 + 4 + 4 + 4 + 4 + 4;
           executed = s.executed + 1 + 1 + 1 + 1;
         } in
@@ -126,11 +127,11 @@ module _ (code : Code) (pool : Pool) (view : View) (s : Processor) (stands : Sta
           u,
           record {
             cell = view.border;
-            then_view = record view { heap = changed view.border (token []) view.heap; border = view.border + 32 };
+            then_view = record view { heap = changed view.border (token []) view.heap; border = view.border + cell_size };
             slot = None;
             count = 5;
             taken = at_border none before;
-            returns = returns_by (leads-back t stands c has_border.1.1.1.0 refl way.aligned way.in_range) refl (kept (view.border + 32) view.border) refl;
+            returns = returns_by (leads-back t stands c has_border.1.1.1.0 refl way.aligned way.in_range) refl (kept (view.border + cell_size) view.border) refl;
             gives = refl;
             cells = memory_fresh pool view s u memory refl refl refl refl none before refl refl;
             memory = refl;

@@ -5,6 +5,7 @@ use Rattle.kk_base.specs.declared.limit.LimitKind.TheVariants.{Fields}
 use Rattle.rv_isa.specs.Bytes.{with_number, Apart}
 use Rattle.rv_isa.specs.Processor.{Processor, value}
 use Rattle.rv_isa.proofs.Memory.{word-same, word-apart}
+use Rattle.rv_isa.specs.Numbers.{cell_size}
 use Rattle.cell_heap.specs.Cells.{Cell, free, token, Heap, changed, occurs}
 use Rattle.cell_heap.specs.Pool.{Pool, IsCell, IsUsable}
 use Rattle.cell_heap.specs.View.{Link, View, HasBorder}
@@ -39,7 +40,7 @@ module _ (cell next slot : ℕ) (memory : ℕ → ℕ) (next_fits : next < 2 ^ 3
   linked-but : SameBut memory (linked cell next slot memory) cell
   linked-but = record { same = λ x away. linked-apart x (nearer x away) }
     where
-      nearer : (x : ℕ) → (x + 4 ≤ cell) ⊎ (cell + 32 ≤ x) → (x + 4 ≤ cell) ⊎ (cell + 8 ≤ x)
+      nearer : (x : ℕ) → (x + 4 ≤ cell) ⊎ (cell + cell_size ≤ x) → (x + 4 ≤ cell) ⊎ (cell + 8 ≤ x)
       nearer x (inl low) = inl low
       nearer x (inr high) = inr (omega arith)
 
@@ -85,7 +86,7 @@ module _ (pool : Pool) (view : View) (s t : Processor) (memory : Memory pool vie
       let few = old.1 in (
         token_cell,
         old.1,
-        HasWords-same s.memory t.memory (cell + 8) (cell + 32) fields record {
+        HasWords-same s.memory t.memory (cell + 8) (cell + cell_size) fields record {
           same = λ x low high.
               ap (λ m. word m x) stored ∙ linked-apart cell (value s.registers 9) slot s.memory next_fits (omega (arith, is_slot.below)) x (inr low);
         } (omega arith) old.2,

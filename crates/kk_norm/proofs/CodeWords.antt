@@ -1,5 +1,5 @@
 -- The forms of a core form take few words for each node of the text that it is made of, and its tests are brief.
-use Rattle.std.proofs.Common.{◌≡◌, ℕ, ◌+◌, ◌*◌, ◌≤◌, ◌&&◌, Bool, true, false, List, [], ◌∷◌, length, refl, ap, sym, subst, ◌∙◌, arith}
+use Rattle.std.proofs.Common.{◌≡◌, ℕ, ◌+◌, ◌-◌, ◌*◌, ◌≤◌, ◌&&◌, Bool, true, false, List, [], ◌∷◌, length, refl, ap, sym, subst, ◌∙◌, arith}
 use Rattle.std.specs.Prelude.{if◌then◌else◌, sum_by}
 use Rattle.std.proofs.lemmas.List.Sums.{sum_by-cons}
 use Rattle.kk_syntax.specs.declared.program.Form.{Form}
@@ -9,7 +9,8 @@ use Rattle.kk_syntax.specs.Programs.{ConstructorTree, FunctionTree, ProgramTree}
 use Rattle.kk_syntax.specs.Shapes.{nodes_of, nodes_of_all, nodes_of_rows, nodes_of_pattern, variable_of}
 use Rattle.kk_syntax.specs.Trees.{Tree, variable, apply, branch, match, sequence, Trees, no_tree, tree, Rows, no_row, row, row_parts}
 use Rattle.kk_core.specs.CaseLengths.{tests_length, brief_node_length, brief_pair_length, most_brief}
-use Rattle.kk_core.specs.CodeNodes.{is_plain_pattern, are_truths, first_fields, case_nodes, AreBriefFor, HasBriefTests, HaveBriefTests, drops_words, plain_words, arms_plain_words, most_node_words, StandsForNodes, StandForNodes}
+use Rattle.kk_core.specs.CodeNodes.{is_plain_pattern, are_truths, first_fields, case_nodes, AreBriefFor, HasBriefTests, HaveBriefTests, StandsForNodes, StandForNodes}
+use Rattle.kk_core.specs.CodeNodes.{drops_words, plain_words, arms_plain_words, most_node_words, reference_length, give_words, argument_words, print_words, string_words, case_words, opening_words, opened_field_words}
 use Rattle.kk_core.specs.Codes.{Code, case, Arms, patterns_of, FunctionCode, ProgramCode}
 use Rattle.kk_core.specs.Decisions.{NodeTree}
 use Rattle.kk_core.specs.Truths.{truth_case}
@@ -82,22 +83,26 @@ mutual
         opened_all_fields (a + 1) (n + pattern_size first) others rest,
       )
 
+-- the words of an opening for each of its fields, of which one has those of the opening itself too
+abbrev field_share : ℕ
+field_share = opening_words + opened_field_words
+
 opened_cell_words : (a n c : ℕ) (ps : Patterns) (rest : Code)
-    → plain_words (opened_all n (n + part_count ps) ps rest) ≤ 58 * parts_size ps + plain_words rest
-    → plain_words (opened a n (constructor c ps) rest) ≤ 58 * (part_count ps + parts_size ps) + plain_words rest
+    → plain_words (opened_all n (n + part_count ps) ps rest) ≤ field_share * parts_size ps + plain_words rest
+    → plain_words (opened a n (constructor c ps) rest) ≤ field_share * (part_count ps + parts_size ps) + plain_words rest
 opened_cell_words a n c no_part rest few = omega arith
 opened_cell_words a n c (part first others) rest few = omega (arith, few, numbers_long n (part first others))
 
 mutual
   opened_words : (a n : ℕ) (p : Pattern) (rest : Code)
-      → plain_words (opened a n p rest) ≤ 58 * pattern_size p + plain_words rest
+      → plain_words (opened a n p rest) ≤ field_share * pattern_size p + plain_words rest
   opened_words a n anything rest = omega arith
   opened_words a n (pattern_variable x) rest = omega arith
   opened_words a n (exactly m) rest = omega arith
   opened_words a n (constructor c ps) rest = opened_cell_words a n c ps rest (opened_all_words n (n + part_count ps) ps rest)
 
   opened_all_words : (a n : ℕ) (ps : Patterns) (rest : Code)
-      → plain_words (opened_all a n ps rest) ≤ 58 * parts_size ps + plain_words rest
+      → plain_words (opened_all a n ps rest) ≤ field_share * parts_size ps + plain_words rest
   opened_all_words a n no_part rest = omega arith
   opened_all_words a n (part first others) rest =
       omega (
@@ -199,10 +204,26 @@ match_brief constructors k names a n rows decisions arms decided are =
 
 -- ---- what comes after
 
+-- the words of an argument, with a dup and a drop of it
+abbrev argument_share : ℕ
+argument_share = argument_words + 2 * reference_length
+
+-- of an end that gives a value, with a drop or a dup of it
+abbrev end_words : ℕ
+end_words = give_words + reference_length
+
+-- of the longest form, the print of a string, with a drop of its value
+abbrev longest_words : ℕ
+longest_words = print_words + string_words + reference_length
+
+-- what a node that is the longest form leaves at the end of a block
+abbrev left_at_end : ℕ
+left_at_end = most_node_words - longest_words - end_words
+
 -- What an expression leaves of its words: for being an argument, where more comes, and else for the end of its block.
 abbrev words_left : Then → ℕ
-words_left (final tail) = 22
-words_left (next rest) = 20
+words_left (final tail) = left_at_end
+words_left (next rest) = argument_share
 
 abbrev words_then : Then → ℕ
 words_then (final tail) = 0
@@ -212,41 +233,45 @@ after_use_words : (k : Then) (a : ℕ) → plain_words (after_use k a) + words_l
 after_use_words (final tail) a = omega arith
 after_use_words (next rest) a = omega arith
 
-after_words : (k : Then) (a : ℕ) → plain_words (after k a) + words_left k ≤ 35 + words_then k
+after_words : (k : Then) (a : ℕ) → plain_words (after k a) + words_left k ≤ end_words + left_at_end + words_then k
 after_words (final tail) a = omega arith
 after_words (next rest) a = omega arith
 
 finish_call_words : (k : Then) (m f : ℕ) (xs : List ℕ)
-    → plain_words (finish_call k m f xs) + words_left k ≤ most_node_words + 20 * length xs + words_then k
+    → plain_words (finish_call k m f xs) + words_left k ≤ most_node_words + argument_share * length xs + words_then k
 finish_call_words (final true) m f xs = omega arith
 finish_call_words k m f xs = omega (arith, after_words k m)
 
 construct_words : (k : Then) (m c : ℕ) (xs : List ℕ)
-    → plain_words (finish k m (Construct c) xs) + words_left k ≤ most_node_words + 20 * length xs + words_then k
+    → plain_words (finish k m (Construct c) xs) + words_left k ≤ most_node_words + argument_share * length xs + words_then k
 construct_words k m c [] = omega (arith, after_words k m)
 construct_words k m c (x ∷ xs) = omega (arith, after_words k m)
 
 finish_words : (k : Then) (m : ℕ) (form : Form) (xs : List ℕ)
-    → plain_words (finish k m form xs) + words_left k ≤ most_node_words + 20 * length xs + words_then k
+    → plain_words (finish k m form xs) + words_left k ≤ most_node_words + argument_share * length xs + words_then k
 finish_words k m (Call f) xs = finish_call_words k m f xs
 finish_words k m (Construct c) xs = construct_words k m c xs
 finish_words k m form xs = omega (arith, after_words k m)
 
 joined_words : (k : Then) (m : ℕ) (own : Code)
-    → plain_words (joined k m own) + words_left k ≤ 27 + plain_words own + words_then k
+    → plain_words (joined k m own) + words_left k ≤ reference_length + argument_share + plain_words own + words_then k
 joined_words (final tail) m own = omega arith
 joined_words (next rest) m own = omega arith
 
-words_within : (k : Then) → (words_left (within k) ≡ 22) × (words_then (within k) ≡ 0)
+words_within : (k : Then) → (words_left (within k) ≡ left_at_end) × (words_then (within k) ≡ 0)
 words_within (final tail) = (refl, refl)
 words_within (next rest) = (refl, refl)
+
+-- the words of a match, but for its arms, and for what its tests count for at the nodes of its patterns
+abbrev match_share : ℕ
+match_share = case_words + reference_length + most_truth_pairs
 
 -- a case of a match, by what its arms leave for it
 match_words : (x : ℕ) (decisions : List NodeTree) (arms : Arms) (words : ℕ)
     → (if are_truths (patterns_of arms) then tests_length decisions else brief_node_length * case_nodes arms)
     ≤ brief_node_length * case_nodes arms + most_truth_pairs
     → arms_plain_words arms + brief_node_length * case_nodes arms + drops_words * length (patterns_of arms) ≤ words
-    → plain_words (case x decisions arms) ≤ 20 + words
+    → plain_words (case x decisions arms) ≤ match_share + words
 match_words x decisions arms words tests few = omega (arith, tests, few)
 
 -- ---- expressions
@@ -291,7 +316,7 @@ mutual
 
   codes_words : (constructors : List ConstructorTree) (names : Names) (n : ℕ) (es : Trees) (last c : Code)
       → AreCodes constructors names n es last c
-      → plain_words c + 20 * length (atoms names n es) ≤ most_node_words * nodes_of_all es + plain_words last
+      → plain_words c + argument_share * length (atoms names n es) ≤ most_node_words * nodes_of_all es + plain_words last
   codes_words constructors names n no_tree last c coded = omega (arith, ap plain_words coded)
   codes_words constructors names n (tree first rest) last c coded =
       let one = code_words constructors (next coded.0) names n first c coded.2 in
@@ -300,7 +325,7 @@ mutual
 
   -- A row leaves what its patterns count for in tests, and eight drops at the start of its arm.
   arms_words : (constructors : List ConstructorTree) (k : Then) (names : Names) (a n : ℕ) (rows : Rows) (arms : Arms)
-      → AreArms constructors k names a n rows arms → words_left k ≡ 22 → words_then k ≡ 0
+      → AreArms constructors k names a n rows arms → words_left k ≡ left_at_end → words_then k ≡ 0
       → arms_plain_words arms + brief_node_length * case_nodes arms + drops_words * length (patterns_of arms)
       ≤ most_node_words * nodes_of_rows rows
   arms_words constructors k names a n no_row arms are left none =

@@ -1,5 +1,5 @@
 -- The tests of all cases of a core form are short: those of a match take little for each node of its patterns.
-use Rattle.std.proofs.Common.{◌≡◌, ℕ, ◌+◌, ◌*◌, ◌≤◌, true, List, [], ◌∷◌, length, refl, ap, ◌∙◌, arith, mul-le-mul_right}
+use Rattle.std.proofs.Common.{◌≡◌, ℕ, ◌+◌, ◌*◌, ◌/◌, ◌≤◌, true, List, [], ◌∷◌, length, refl, ap, ◌∙◌, arith, mul-le-mul_right}
 use Rattle.std.specs.Prelude.{sum_by}
 use Rattle.std.proofs.lemmas.List.Sums.{sum_by-cons}
 use Rattle.kk_syntax.specs.declared.program.Form.{Form}
@@ -9,9 +9,9 @@ use Rattle.kk_syntax.specs.Shapes.{nodes_of, nodes_of_all, nodes_of_rows, nodes_
 use Rattle.kk_syntax.specs.Trees.{Tree, variable, apply, branch, match, sequence, Trees, no_tree, tree, Rows, no_row, row, row_parts}
 use Rattle.kk_syntax.specs.Programs.{ConstructorTree, FunctionTree}
 use Rattle.kk_core.specs.Codes.{Code, case, Arms, FunctionCode}
-use Rattle.kk_core.specs.CaseLengths.{tests_length, most_brief, cases_length, arms_cases_length, all_cases_length}
+use Rattle.kk_core.specs.CaseLengths.{tests_length, most_brief, cases_length, arms_cases_length, all_cases_length, most_cases_length}
 use Rattle.kk_core.specs.Decisions.{NodeTree}
-use Rattle.kk_core.specs.Sizes.{most_nodes}
+use Rattle.kk_core.specs.Sizes.{most_nodes, most_program_nodes}
 use Rattle.kk_core.specs.Truths.{truth_case}
 use Rattle.kk_norm.specs.MatchDecisions.{AreDecisions}
 use Rattle.kk_norm.specs.Names.{Names, name_of, named}
@@ -80,7 +80,7 @@ rows_nodes (row (row_parts pattern body) rest) =
 
 -- how long the tests of cases are at most, for each node of a function
 abbrev node_cases : ℕ
-node_cases = 80 * most_nodes
+node_cases = most_cases_length / most_program_nodes
 
 -- patterns of so many nodes
 few_tests : (p : ℕ) → p ≤ most_nodes → most_brief p ≤ node_cases * (p + 1)

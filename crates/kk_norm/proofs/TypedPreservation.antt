@@ -189,8 +189,12 @@ cost_at : (most : ℕ) (control : CoreControl) → most_cost (most_by most) cont
 cost_at most (running code environment joins) = costs_of most code
 cost_at most (stopped by) = omega arith
 
+-- the most room for each node but one
+abbrev node_room : ℕ
+node_room = most_room 2
+
 -- by the cells that a step opens, the nodes of the greatest body, and the room
-square : (o d e room : ℕ) → room ≤ 64 * (o + d + e)
+square : (o d e room : ℕ) → room ≤ node_room * (o + d + e)
     → 2 * (room + (step_cost + part_cost * ((o + d) * ((o + d) + 1)))) + o * (room + (step_cost + part_cost * (o + d)))
     ≤ most_step_cost (suc (o + d) + e)
 square o d e room few = omega (arith, few, mul-le-mul_right o few)
