@@ -18,7 +18,7 @@ use Rattle.cell_heap.proofs.Frames.{SameInside, SameInside-store}
 use Rattle.cell_heap.proofs.Blocks.{outside-holds}
 use Rattle.cell_runtime.specs.World.{World, first_world}
 use Rattle.cell_runtime.specs.Operations.{all_bytes}
-use Rattle.rv_place.specs.Addresses.{takes_frame, words_of_shift, words_to_frame, entry_words, frame_bias}
+use Rattle.rv_place.specs.Addresses.{takes_frame, words_of_shift, words_to_frame, entry_words, frame_bias, way_offset}
 use Rattle.rv_place.specs.Lines.{Map, EntersAt, PassesAt, BeginsAt, FunctionAt}
 use Rattle.rv_place.specs.declared.reach.Reach.{Reach}
 use Rattle.rv_place.specs.Grounds.{stack_end, constant_bytes, Ground, Rests}
@@ -77,11 +77,15 @@ module _ {map : Map} {pool : Pool} {functions : List PlacedLines} {depth buffer 
   above : map.bottom ≤ base
   above = omega (arith, base_is, first_frame depth map.frame ground.some_depth)
 
-  base_word : base % 4 ≡ 0
-  base_word = omega (arith, base_is, frames_word depth map.frame ground.frame_words, ground.frame_words, ground.bottom_word)
+  -- the last word of main's frame, which is one and may be stored
+  abbrev last : ℕ
+  last = base + way_offset map.frame
 
-  allowed : can_store parts base 4 ≡ true
-  allowed = ground.stores base above (omega (arith, base_is, ground.some_frame)) base_word
+  last_word : last % 4 ≡ 0
+  last_word = omega (arith, base_is, frames_word depth map.frame ground.frame_words, ground.frame_words, ground.bottom_word)
+
+  allowed : can_store parts last 4 ≡ true
+  allowed = ground.stores last (omega (arith, above)) (omega (arith, base_is, ground.some_frame)) last_word
 
   -- the stack has room for main's frame
   more : stack_end map depth ≢ map.bottom
@@ -92,20 +96,20 @@ module _ {map : Map} {pool : Pool} {functions : List PlacedLines} {depth buffer 
 
   -- where main takes a frame
   module _ (own_is : takes_frame map.jumps main.code ≡ true) (enters : EntersAt map code entry) where
-    takes : Shifts pool.cells code (words_to_frame map.jumps + 1 + words_of_shift map.jumps + 1) (5 ∷ 2 ∷ []) (with_number base 4 stop s.memory) (base + frame_bias map.jumps) (entry + 4 * entry_words map.jumps) s
+    takes : Shifts pool.cells code (words_to_frame map.jumps + 1 + words_of_shift map.jumps + 1) (5 ∷ 2 ∷ []) (with_number last 4 stop s.memory) (base + frame_bias map.jumps) (entry + 4 * entry_words map.jumps) s
     takes =
         let full = ground.stack_full in
         entry_takes pool.cells ground.below before.rests.stands map entry before.pc_is enters full.0 full.1 (stack_end map depth) before.base_is ground.in_range
-        (before.cells.memory.end ∙ ground.cells_below) base stop (sym base_is) before.way_is more base_word (rw before.rests.parts_are allowed)
-        (behind_misses before.cells base (omega (arith, above, ground.cells_below)))
+        (before.cells.memory.end ∙ ground.cells_below) base stop (sym base_is) before.way_is more last_word (rw before.rests.parts_are allowed)
+        (behind_misses before.cells last (omega (arith, above, ground.cells_below)))
 
     constants_stay : bytes_at takes.after.memory map.constants.first (constant_bytes map) ≡ all_bytes map.constants.texts
     constants_stay =
         ap (λ memory. bytes_at memory map.constants.first (constant_bytes map)) takes.done.memory_is
-        ∙ bytes_at-with_number_apart base 4 stop s.memory map.constants.first (constant_bytes map) (ground.constants_kept base 4 allowed (omega arith))
+        ∙ bytes_at-with_number_apart last 4 stop s.memory map.constants.first (constant_bytes map) (ground.constants_kept last 4 allowed (omega arith))
         ∙ before.rests.constants
 
-    frames_stand : FramesAt map code (most_lines functions) stop (stack_end map depth) (with_number base 4 stop s.memory) (entry + 4 * entry_words map.jumps) base (placed_entered 0 main ∷ [])
+    frames_stand : FramesAt map code (most_lines functions) stop (stack_end map depth) (with_number last 4 stop s.memory) (entry + 4 * entry_words map.jumps) base (placed_entered 0 main ∷ [])
     frames_stand =
         frames_pushed map code (most_lines functions) stop (stack_end map depth) ground.some_frame s.memory base stop (entry + 4 * entry_words map.jumps) (placed_entered 0 main) [] ground.stop_below entered
         (λ k w e. cc) refl own_is (refl, base_is)
@@ -127,7 +131,7 @@ module _ {map : Map} {pool : Pool} {functions : List PlacedLines} {depth buffer 
             (rw (takes.done.memory_is, takes.done.pc_is) frames_stand);
         registers = λ x word e. cc;
         one = takes.done.kept one_register ((λ e. cc), ((λ e. cc), tt)) ∙ before.one;
-        cells = outside-holds before.cells (roots_done takes.done refl) (subst (λ m. SameInside pool s.memory m) (sym takes.done.memory_is) (SameInside-store pool s.memory base stop (inr (omega (arith, above, ground.cells_below))))) (record { same = λ slot some. absurd (some refl) });
+        cells = outside-holds before.cells (roots_done takes.done refl) (subst (λ m. SameInside pool s.memory m) (sym takes.done.memory_is) (SameInside-store pool s.memory last stop (inr (omega (arith, above, ground.cells_below))))) (record { same = λ slot some. absurd (some refl) });
       };
     }
 
@@ -138,8 +142,8 @@ module _ {map : Map} {pool : Pool} {functions : List PlacedLines} {depth buffer 
         bare_passes pool.cells ground.below before.rests.stands map entry before.pc_is passes (stack_end map depth)
         (before.base_is ∙ bare_sp map.jumps (stack_end map depth) (bare_near map.jumps main.code own_is)) (before.cells.memory.end ∙ ground.cells_below) entered.below more
 
-    way_is : way_back (takes_frame map.jumps main.code) passed.after.registers s.memory base ≡ stop
-    way_is = ap (λ t. way_back t passed.after.registers s.memory base) own_is ∙ (passed.done.kept 1 tt ∙ before.way_is)
+    way_is : way_back (takes_frame map.jumps main.code) passed.after.registers s.memory last ≡ stop
+    way_is = ap (λ t. way_back t passed.after.registers s.memory last) own_is ∙ (passed.done.kept 1 tt ∙ before.way_is)
 
     stack_stands : StackAt map code (most_lines functions) stop (stack_end map depth) passed.after.registers s.memory (entry + 4 * entry_words map.jumps) base (placed_entered 0 main ∷ [])
     stack_stands = (entered, (λ k w e. cc), tt, (way_is, base_is))

@@ -9,7 +9,7 @@ use Rattle.rv_isa.specs.Bytes.{number_at, with_number}
 use Rattle.rv_isa.specs.Processor.{value}
 use Rattle.rv_isa.specs.Standing.{Code}
 use Rattle.rv_isa.proofs.Memory.{word-same, word-apart}
-use Rattle.rv_place.specs.Addresses.{takes_frame, slot_offset}
+use Rattle.rv_place.specs.Addresses.{takes_frame, slot_offset, way_offset}
 use Rattle.rv_place.specs.Lines.{Map}
 use Rattle.rv_place.specs.ProcessorStates.{IsIn, Slots, FramesAt, way_back, StackAt, newest_taken, Agrees}
 
@@ -56,12 +56,12 @@ module _ (map : Map) (code : Code) (most stop roof : ℕ) where
   pub frames_sum : (memory : ℕ → ℕ) (at base : ℕ) (frames : List (Frame PlacedLine)) → FramesAt map code most stop roof memory at base frames → base + length frames * map.frame ≡ roof
   frames_sum memory at base [] stand = let is = stand.1 in omega arith
   frames_sum memory at base (frame ∷ frames) stand =
-      more_frames base (length frames) map.frame roof (frames_sum memory (number_at memory base 4) (base + map.frame) frames stand.3)
+      more_frames base (length frames) map.frame roof (frames_sum memory (number_at memory (base + way_offset map.frame) 4) (base + map.frame) frames stand.3)
 
   -- the newest frame ends within the stack
   pub frame_below : (memory : ℕ → ℕ) (at base : ℕ) (frame : Frame PlacedLine) (frames : List (Frame PlacedLine)) → FramesAt map code most stop roof memory at base (frame ∷ frames) → base + map.frame ≤ roof
   frame_below memory at base frame frames stand =
-      let sum = frames_sum memory (number_at memory base 4) (base + map.frame) frames stand.3 in omega arith
+      let sum = frames_sum memory (number_at memory (base + way_offset map.frame) 4) (base + map.frame) frames stand.3 in omega arith
 
   -- frames whose words are the same stand in another memory
   pub slots_kept : (memory after : ℕ → ℕ) (base : ℕ) (cells : ℕ → Option ℕ)
@@ -75,9 +75,9 @@ module _ (map : Map) (code : Code) (most stop roof : ℕ) where
   frames_kept some memory after at base [] same stand = stand
   frames_kept some memory after at base (frame ∷ frames) same stand =
       let ends = frame_below memory at base frame frames stand in
-      let rest : FramesAt map code most stop roof after (number_at memory base 4) (base + map.frame) frames =
-      frames_kept some memory after (number_at memory base 4) (base + map.frame) frames (λ x low high. same x (omega arith) high) stand.3 in
-      let way : number_at after base 4 ≡ number_at memory base 4 = same base (omega arith) (omega arith) in (
+      let rest : FramesAt map code most stop roof after (number_at memory (base + way_offset map.frame) 4) (base + map.frame) frames =
+      frames_kept some memory after (number_at memory (base + way_offset map.frame) 4) (base + map.frame) frames (λ x low high. same x (omega arith) high) stand.3 in
+      let way : number_at after (base + way_offset map.frame) 4 ≡ number_at memory (base + way_offset map.frame) 4 = same (base + way_offset map.frame) (omega arith) (omega arith) in (
         stand.0,
         slots_kept memory after base frame.cells (λ x low high. same x low (omega arith)) stand.1,
         stand.2,
@@ -87,10 +87,10 @@ module _ (map : Map) (code : Code) (most stop roof : ℕ) where
 -- ---- the running frame
 
 -- where the frame goes on that waits for it
-way_kept : (takes : Bool) (registers after memory memory' : ℕ → ℕ) (base : ℕ) → (takes ≡ false → value after 1 ≡ value registers 1)
-    → number_at memory' base 4 ≡ number_at memory base 4 → way_back takes registers memory base ≡ way_back takes after memory' base
-way_kept true registers after memory memory' base link same = sym same
-way_kept false registers after memory memory' base link same = sym (link refl)
+way_kept : (takes : Bool) (registers after memory memory' : ℕ → ℕ) (last : ℕ) → (takes ≡ false → value after 1 ≡ value registers 1)
+    → number_at memory' last 4 ≡ number_at memory last 4 → way_back takes registers memory last ≡ way_back takes after memory' last
+way_kept true registers after memory memory' last link same = sym same
+way_kept false registers after memory memory' last link same = sym (link refl)
 
 module _ (map : Map) (code : Code) (most stop roof : ℕ) where
   pub stack_sum : (registers memory : ℕ → ℕ) (at base : ℕ) (frames : List (Frame PlacedLine)) → StackAt map code most stop roof registers memory at base frames
@@ -98,7 +98,7 @@ module _ (map : Map) (code : Code) (most stop roof : ℕ) where
   stack_sum registers memory at base [] stand = let is = stand.1 in omega arith
   stack_sum registers memory at base (frame ∷ frames) stand =
       more_frames base (length frames) map.frame roof
-      (frames_sum map code most stop roof memory (way_back (takes_frame map.jumps frame.whole) registers memory base) (base + map.frame) frames stand.3)
+      (frames_sum map code most stop roof memory (way_back (takes_frame map.jumps frame.whole) registers memory (base + way_offset map.frame)) (base + map.frame) frames stand.3)
 
   -- where the words of the stack are the same, and ra too, if the function takes no frame
   pub stack_kept : 4 ≤ map.frame → (registers after memory memory' : ℕ → ℕ) (at base : ℕ) (frame : Frame PlacedLine) (frames : List (Frame PlacedLine))
@@ -107,7 +107,7 @@ module _ (map : Map) (code : Code) (most stop roof : ℕ) where
       → StackAt map code most stop roof registers memory at base (frame ∷ frames) → StackAt map code most stop roof after memory' at base (frame ∷ frames)
   stack_kept some registers after memory memory' at base frame frames link same stand =
       let takes = takes_frame map.jumps frame.whole in
-      let way : ℕ = way_back takes registers memory base in
+      let way : ℕ = way_back takes registers memory (base + way_offset map.frame) in
       let sum = frames_sum map code most stop roof memory way (base + map.frame) frames stand.3 in
       let rest : FramesAt map code most stop roof memory' way (base + map.frame) frames =
       frames_kept map code most stop roof some memory memory' way (base + map.frame) frames (λ x low high. same x (omega arith) high) stand.3 in (
@@ -115,7 +115,7 @@ module _ (map : Map) (code : Code) (most stop roof : ℕ) where
         slots_kept map code most stop roof memory memory' base frame.cells (λ x low high. same x low (omega arith)) stand.1,
         stand.2,
         subst (λ w. FramesAt map code most stop roof memory' w (base + map.frame) frames)
-            (way_kept takes registers after memory memory' base link (same base (omega arith) (omega arith))) rest,
+            (way_kept takes registers after memory memory' (base + way_offset map.frame) link (same (base + way_offset map.frame) (omega arith) (omega arith))) rest,
       )
 
   -- one whose function takes a frame stands as one that waits does
@@ -125,7 +125,7 @@ module _ (map : Map) (code : Code) (most stop roof : ℕ) where
     stand.0,
     stand.1,
     (stand.2, takes),
-    subst (λ t. FramesAt map code most stop roof memory (way_back t registers memory base) (base + map.frame) frames) takes stand.3,
+    subst (λ t. FramesAt map code most stop roof memory (way_back t registers memory (base + way_offset map.frame)) (base + map.frame) frames) takes stand.3,
   )
 
   pub runs_as : (registers memory : ℕ → ℕ) (at base : ℕ) (frames : List (Frame PlacedLine))
@@ -135,7 +135,7 @@ module _ (map : Map) (code : Code) (most stop roof : ℕ) where
     stand.0,
     stand.1,
     stand.2.0,
-    subst (λ t. FramesAt map code most stop roof memory (way_back t registers memory base) (base + map.frame) frames) (sym stand.2.1) stand.3,
+    subst (λ t. FramesAt map code most stop roof memory (way_back t registers memory (base + way_offset map.frame)) (base + map.frame) frames) (sym stand.2.1) stand.3,
   )
 
   pub newest_waits : (memory : ℕ → ℕ) (at base : ℕ) (frames : List (Frame PlacedLine)) → FramesAt map code most stop roof memory at base frames
@@ -145,7 +145,7 @@ module _ (map : Map) (code : Code) (most stop roof : ℕ) where
 
 -- ---- a store to a slot
 
-module _ (map : Map) (memory : ℕ → ℕ) (base slot v : ℕ) (inside : slot_offset slot + 4 ≤ map.frame) where
+module _ (map : Map) (memory : ℕ → ℕ) (base slot v : ℕ) (inside : slot_offset slot + 4 ≤ way_offset map.frame) where
   abbrev stored : ℕ → ℕ
   stored = with_number (base + slot_offset slot) 4 v memory
 
@@ -159,44 +159,44 @@ module _ (map : Map) (memory : ℕ → ℕ) (base slot v : ℕ) (inside : slot_o
   pub store_behind : (x : ℕ) → base + map.frame ≤ x → number_at stored x 4 ≡ number_at memory x 4
   store_behind x low = word-apart (base + slot_offset slot) v memory x (inr (omega arith))
 
-  pub store_way : number_at stored base 4 ≡ number_at memory base 4
-  store_way = word-apart (base + slot_offset slot) v memory base (inl (omega arith))
+  pub store_way : number_at stored (base + way_offset map.frame) 4 ≡ number_at memory (base + way_offset map.frame) 4
+  store_way = word-apart (base + slot_offset slot) v memory (base + way_offset map.frame) (inr (omega arith))
 
   pub slots_put : (word : Option ℕ) (cells : ℕ → Option ℕ) → ((w : ℕ) → word ≡ Some w → (v ≡ w) × (w < 2 ^ 32)) → Slots map memory base cells → Slots map stored base (put slot word cells)
   slots_put word cells new slots k w is = by (known_put slot word cells k w is)
     where
-      by : ((k ≡ slot) × (word ≡ Some w)) ⊎ ((k ≢ slot) × (cells k ≡ Some w)) → (slot_offset k + 4 ≤ map.frame) × (number_at stored (base + slot_offset k) 4 ≡ w) × (w < 2 ^ 32)
+      by : ((k ≡ slot) × (word ≡ Some w)) ⊎ ((k ≢ slot) × (cells k ≡ Some w)) → (slot_offset k + 4 ≤ way_offset map.frame) × (number_at stored (base + slot_offset k) 4 ≡ w) × (w < 2 ^ 32)
       by (inl here) =
           let is_word = new w here.1 in
           let holds : number_at stored (base + slot_offset slot) 4 ≡ w = ap (λ n. number_at (with_number (base + slot_offset slot) 4 n memory) (base + slot_offset slot) 4) is_word.0 ∙ word-same (base + slot_offset slot) w memory is_word.1 in
-          subst (λ j. (slot_offset j + 4 ≤ map.frame) × (number_at stored (base + slot_offset j) 4 ≡ w) × (w < 2 ^ 32)) (sym here.0) (inside, holds, is_word.1)
+          subst (λ j. (slot_offset j + 4 ≤ way_offset map.frame) × (number_at stored (base + slot_offset j) 4 ≡ w) × (w < 2 ^ 32)) (sym here.0) (inside, holds, is_word.1)
       by (inr there) = let old = slots k w there.1 in (old.0, other_slot k there.0 ∙ old.1, old.2)
 
 module _ (map : Map) (code : Code) (most stop roof : ℕ) where
   -- the frames behind a store to a slot of the newest one
   pub frames_put : 4 ≤ map.frame → (memory : ℕ → ℕ) (base slot v at next : ℕ) (word : Option ℕ) (frame frame' : Frame PlacedLine) (frames : List (Frame PlacedLine))
-      → slot_offset slot + 4 ≤ map.frame → ((w : ℕ) → word ≡ Some w → (v ≡ w) × (w < 2 ^ 32)) → frame'.cells ≡ put slot word frame.cells → frame'.into ≡ frame.into → frame'.whole ≡ frame.whole → IsIn map code most next frame'
+      → slot_offset slot + 4 ≤ way_offset map.frame → ((w : ℕ) → word ≡ Some w → (v ≡ w) × (w < 2 ^ 32)) → frame'.cells ≡ put slot word frame.cells → frame'.into ≡ frame.into → frame'.whole ≡ frame.whole → IsIn map code most next frame'
       → FramesAt map code most stop roof memory at base (frame ∷ frames) → FramesAt map code most stop roof (with_number (base + slot_offset slot) 4 v memory) next base (frame' ∷ frames)
   frames_put some memory base slot v at next word frame frame' frames inside new cells_are into_is whole_is here stand =
       let after = with_number (base + slot_offset slot) 4 v memory in
-      let rest : FramesAt map code most stop roof after (number_at memory base 4) (base + map.frame) frames =
-      frames_kept map code most stop roof some memory after (number_at memory base 4) (base + map.frame) frames (λ x low high. store_behind map memory base slot v inside x low) stand.3 in (
+      let rest : FramesAt map code most stop roof after (number_at memory (base + way_offset map.frame) 4) (base + map.frame) frames =
+      frames_kept map code most stop roof some memory after (number_at memory (base + way_offset map.frame) 4) (base + map.frame) frames (λ x low high. store_behind map memory base slot v inside x low) stand.3 in (
         here,
         subst (Slots map after base) (sym cells_are) (slots_put map memory base slot v inside word frame.cells new stand.1),
         (rw into_is stand.2.0, rw whole_is stand.2.1),
         subst (λ w. FramesAt map code most stop roof after w (base + map.frame) frames) (sym (store_way map memory base slot v inside)) rest,
       )
 
-  -- a new frame under the others, whose first word is where the newest of them goes on
+  -- a new frame under the others, whose last word is where the newest of them goes on
   pub frames_pushed : 4 ≤ map.frame → (memory : ℕ → ℕ) (base way : ℕ) (next : ℕ) (frame : Frame PlacedLine) (frames : List (Frame PlacedLine)) → way < 2 ^ 32 → IsIn map code most next frame
       → ((k w : ℕ) → frame.cells k ≡ Some w → ⊥) → frame.into ≡ None → takes_frame map.jumps frame.whole ≡ true
-      → FramesAt map code most stop roof memory way (base + map.frame) frames → FramesAt map code most stop roof (with_number base 4 way memory) next base (frame ∷ frames)
+      → FramesAt map code most stop roof memory way (base + map.frame) frames → FramesAt map code most stop roof (with_number (base + way_offset map.frame) 4 way memory) next base (frame ∷ frames)
   frames_pushed some memory base way next frame frames fits here unknown waits_none takes stand =
-      let after = with_number base 4 way memory in
+      let after = with_number (base + way_offset map.frame) 4 way memory in
       let rest : FramesAt map code most stop roof after way (base + map.frame) frames =
-      frames_kept map code most stop roof some memory after way (base + map.frame) frames (λ x low high. word-apart base way memory x (inr (omega arith))) stand in (
+      frames_kept map code most stop roof some memory after way (base + map.frame) frames (λ x low high. word-apart (base + way_offset map.frame) way memory x (inr (omega arith))) stand in (
         here,
         (λ k w is. absurd (unknown k w is)),
         (rw waits_none tt, takes),
-        subst (λ w. FramesAt map code most stop roof after w (base + map.frame) frames) (sym (word-same base way memory fits)) rest,
+        subst (λ w. FramesAt map code most stop roof after w (base + map.frame) frames) (sym (word-same (base + way_offset map.frame) way memory fits)) rest,
       )

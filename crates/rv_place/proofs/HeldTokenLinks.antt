@@ -20,7 +20,7 @@ use Rattle.cell_heap.proofs.Blocks.{outside-holds}
 use Rattle.cell_runtime.specs.Registers.{IsOutside}
 use Rattle.cell_runtime.specs.Calls.{KeepsOutside, Exits}
 use Rattle.cell_runtime.proofs.Blocks.{word_kept}
-use Rattle.rv_place.specs.Addresses.{slot_offset}
+use Rattle.rv_place.specs.Addresses.{slot_offset, way_offset}
 use Rattle.rv_place.specs.Lines.{Map}
 use Rattle.rv_place.specs.ProcessorStates.{IsIn, Slots, FramesAt, word_of, links_in, links_of}
 use Rattle.rv_place.proofs.InstructionExecution.{Done}
@@ -106,17 +106,17 @@ links_in_all P base cells (k ∷ ks) below here later slot some =
       | inr more ↦ links_in_all P base cells ks below (λ j among. here j (or_right (k == j) (is_among j ks) among)) later slot more
     ]
 
--- above the first word of the newest frame
+-- in the newest frame and above
 pub links_low : (map : Map) (base : ℕ) (frames : List (Frame PlacedLine)) (slot : ℕ)
-    → occurs slot (slots_in (links_of map base frames)) ≢ 0 → base + 4 ≤ slot
+    → occurs slot (slots_in (links_of map base frames)) ≢ 0 → base ≤ slot
 links_low map base [] slot some = absurd (some refl)
 links_low map base (frame ∷ frames) slot some =
-    links_in_all (λ x. base + 4 ≤ x) base frame.cells frame.held (links_of map (base + map.frame) frames) (λ k among. omega arith)
+    links_in_all (λ x. base ≤ x) base frame.cells frame.held (links_of map (base + map.frame) frames) (λ k among. omega arith)
     (λ x more. let low = links_low map (base + map.frame) frames x more in omega arith) slot some
 
 -- a store below the frames leaves the slots
 pub slots_below : (map : Map) (base : ℕ) (frames : List (Frame PlacedLine)) (old new : ℕ → ℕ)
-    → ((x : ℕ) → base + 4 ≤ x → number_at new x 4 ≡ number_at old x 4) → SameSlots old new (links_of map base frames)
+    → ((x : ℕ) → base ≤ x → number_at new x 4 ≡ number_at old x 4) → SameSlots old new (links_of map base frames)
 slots_below map base frames old new same = record { same = λ slot some. same slot (links_low map base frames slot some) }
 
 -- ---- a store to a slot of the newest frame
@@ -135,7 +135,7 @@ links_put base j word cells (k ∷ ks) below none =
 
 -- the slots of held tokens are apart from another slot
 pub slots_apart : (map : Map) (base j : ℕ) (frame : Frame PlacedLine) (frames : List (Frame PlacedLine))
-    → slot_offset j + 4 ≤ map.frame → is_among j frame.held ≡ false
+    → slot_offset j + 4 ≤ way_offset map.frame → is_among j frame.held ≡ false
     → (slot : ℕ) → occurs slot (slots_in (links_of map base (frame ∷ frames))) ≢ 0
     → (slot + 4 ≤ base + slot_offset j) ⊎ (base + slot_offset j + 4 ≤ slot)
 slots_apart map base j frame frames inside none =
@@ -212,13 +212,13 @@ module _ (map : Map) (code : Code) (most stop roof : ℕ) (some : 4 ≤ map.fram
       let cell_is : word_of (cells k) ≡ link.cell = ap (λ (l : Link). l.cell) head in
       let slot_is : base + slot_offset k ≡ link.slot = ap (λ (l : Link). l.slot) head in
       let known : cells k ≡ Some (word_of (cells k)) = known_word (cells k) (λ e. cell (sym cell_is ∙ e)) in
-      let inside : slot_offset k + 4 ≤ map.frame = (stand.1 k (word_of (cells k)) known).0 in
+      let inside : slot_offset k + 4 ≤ way_offset map.frame = (stand.1 k (word_of (cells k)) known).0 in
       let only : is_among k ks ≡ false =
       none_again base k cells ks below
       (subst (λ x. occurs x (slots_in (links_in base cells ks below)) ≡ 0) (sym slot_is)
       (subst (λ ls. occurs link.slot (slots_in ls) ≡ 0) (sym tail) once)) in
-      let way : number_at t.memory base 4 ≡ number_at s.memory base 4 = word_kept link.slot 4 s t base keeps (inl (omega arith)) in
-      let rest = frames_kept map code most stop roof some s.memory t.memory (number_at s.memory base 4) (base + map.frame) frames
+      let way : number_at t.memory (base + way_offset map.frame) 4 ≡ number_at s.memory (base + way_offset map.frame) 4 = word_kept link.slot 4 s t (base + way_offset map.frame) keeps (inr (omega arith)) in
+      let rest = frames_kept map code most stop roof some s.memory t.memory (number_at s.memory (base + way_offset map.frame) 4) (base + map.frame) frames
       (λ x low high. word_kept link.slot 4 s t x keeps (inr (omega arith))) stand.3 in
       record {
         after = record frame { cells = put k (Some 0) cells; held = ks } ∷ frames;
@@ -235,14 +235,14 @@ module _ (map : Map) (code : Code) (most stop roof : ℕ) (some : 4 ≤ map.fram
       }
     where
       slot_word : (at base : ℕ) (frame : Frame PlacedLine) (frames : List (Frame PlacedLine)) (k : ℕ)
-          → base + slot_offset k ≡ link.slot → slot_offset k + 4 ≤ map.frame → Slots map s.memory base frame.cells
+          → base + slot_offset k ≡ link.slot → slot_offset k + 4 ≤ way_offset map.frame → Slots map s.memory base frame.cells
           → (j w : ℕ) → ((j ≡ k) × (Some 0 ≡ Some w)) ⊎ ((j ≢ k) × (frame.cells j ≡ Some w))
-          → (slot_offset j + 4 ≤ map.frame) × (number_at t.memory (base + slot_offset j) 4 ≡ w) × (w < 2 ^ 32)
+          → (slot_offset j + 4 ≤ way_offset map.frame) × (number_at t.memory (base + slot_offset j) 4 ≡ w) × (w < 2 ^ 32)
       slot_word at base frame frames k slot_is inside slots j w (inl here) =
           let none : 0 ≡ w = cc (here.1) in
           let there : number_at t.memory (base + slot_offset j) 4 ≡ 0 = ap
           (λ i. number_at t.memory (base + slot_offset i) 4) here.0 ∙ ap (λ x. number_at t.memory x 4) slot_is ∙ zero in
-          (subst (λ i. slot_offset i + 4 ≤ map.frame) (sym here.0) inside, there ∙ none, subst (λ v. v < 2 ^ 32) none (lit< tt))
+          (subst (λ i. slot_offset i + 4 ≤ way_offset map.frame) (sym here.0) inside, there ∙ none, subst (λ v. v < 2 ^ 32) none (lit< tt))
       slot_word at base frame frames k slot_is inside slots j w (inr other) =
           let old = slots j w other.1 in
           (old.0, word_kept link.slot 4 s t (base + slot_offset j) keeps (aside other.0) ∙ old.1, old.2)
@@ -258,21 +258,21 @@ module _ (map : Map) (code : Code) (most stop roof : ℕ) (some : 4 ≤ map.fram
       → TakenFrames map code most stop roof t.memory at base frames link left
   frames_taken at base [] newest stand = cc
   frames_taken at base (frame ∷ frames) newest stand = by frame.held refl
-      (frames_taken (number_at s.memory base 4) (base + map.frame) frames)
+      (frames_taken (number_at s.memory (base + way_offset map.frame) 4) (base + map.frame) frames)
     where
       by : (held : List ℕ) → frame.held ≡ held
           → (links_of map (base + map.frame) frames ≡ link ∷ left
-          → FramesAt map code most stop roof s.memory (number_at s.memory base 4) (base + map.frame) frames
-          → TakenFrames map code most stop roof t.memory (number_at s.memory base 4) (base + map.frame) frames link left)
+          → FramesAt map code most stop roof s.memory (number_at s.memory (base + way_offset map.frame) 4) (base + map.frame) frames
+          → TakenFrames map code most stop roof t.memory (number_at s.memory (base + way_offset map.frame) 4) (base + map.frame) frames link left)
           → TakenFrames map code most stop roof t.memory at base (frame ∷ frames) link left
       by [] held_is older =
           let below : links_of map (base + map.frame) frames ≡ link ∷ left = ap
           (λ h. links_in base frame.cells h (links_of map (base + map.frame) frames)) (sym held_is) ∙ newest in
           let rest = older below stand.3 in
-          let there : base + map.frame + 4 ≤ link.slot =
+          let there : base + map.frame ≤ link.slot =
           links_low map (base + map.frame) frames link.slot
           (subst (λ ls. occurs link.slot (slots_in ls) ≢ 0) (sym below) (occurs-first link.slot (slots_in left))) in
-          let way : number_at t.memory base 4 ≡ number_at s.memory base 4 = word_kept link.slot 4 s t base keeps
+          let way : number_at t.memory (base + way_offset map.frame) 4 ≡ number_at s.memory (base + way_offset map.frame) 4 = word_kept link.slot 4 s t (base + way_offset map.frame) keeps
           (inl (omega arith)) in
           record {
             after = frame ∷ rest.after;

@@ -18,7 +18,7 @@ use Rattle.rv_isa.specs.Standing.{Code, Stands}
 use Rattle.rv_isa.specs.Opposites.{opposite}
 use Rattle.cell_runtime.specs.Operations.{compares}
 use Rattle.rv_place.specs.Registers.{zero_register, ra, sp, t0, s3}
-use Rattle.rv_place.specs.Addresses.{words_of_shift, words_to_frame, entry_words, frame_bias}
+use Rattle.rv_place.specs.Addresses.{words_of_shift, words_to_frame, entry_words, frame_bias, way_offset}
 use Rattle.rv_place.specs.Instructions.{branch_instruction, LoadsWord, words_of_jump, JumpsFar, JumpsBy, words_of_branch, BranchesFar, BranchesOn}
 use Rattle.rv_place.specs.declared.reach.Reach.{Reach}
 use Rattle.rv_place.specs.declared.reach.Reach.TheVariants.{Near, Far, Wide}
@@ -62,10 +62,6 @@ added_twice n a b size is = omega (arith, is)
 -- the address of what stands so far above the first word of a frame, by its offset from the stack pointer
 pub from_pointer : (base bias above offset : ℕ) → sum_word bias offset ≡ above → base + above < 2 ^ 32 → sum_word (base + bias) offset ≡ base + above
 from_pointer base bias above offset is below = omega (arith, is)
-
--- the first word of a frame
-first_word : (base bias offset : ℕ) → sum_word bias offset ≡ 0 → base < 2 ^ 32 → sum_word (base + bias) offset ≡ base
-first_word base bias offset is below = omega (arith, is)
 
 -- where nothing is added
 stays_at : (at : ℕ) → at ≡ at + 4 * 0
@@ -197,36 +193,39 @@ module _ (cells : ℕ) {code : Code} (below : (at : ℕ) (i : Instr) → code at
             ∙ (ap (λ v. sum_word v second.word) (a.value_is (λ e. cc)) ∙ added_twice (value s.registers 2) first.word second.word size sum);
       }
 
-  -- a frame is taken, and the way back saved in its first word
+  -- a frame is taken, and the way back saved in its last word
   pub frame_takes : {s : Processor} → Stands code s → (map : Map) (at : ℕ) → s.pc ≡ at → ShiftsStack map.jumps (2 ^ 32 - map.frame) code at
-      → (back : Immediate) → IsFromPointer map.jumps 0 back → code (at + 4 * words_of_shift map.jumps) ≡ Some (Instr.Sw sp ra back)
+      → (back : Immediate) → IsFromPointer map.jumps (way_offset map.frame) back → code (at + 4 * words_of_shift map.jumps) ≡ Some (Instr.Sw sp ra back)
       → (lower way : ℕ) → value s.registers 2 ≡ lower + map.frame + frame_bias map.jumps → lower + map.frame + frame_bias map.jumps < 2 ^ 32
-      → value s.registers 1 ≡ way → lower % 4 ≡ 0 → can_store s.parts lower 4 ≡ true → MissesFree cells s lower
-      → Shifts cells code (words_of_shift map.jumps + 1) (2 ∷ []) (with_number lower 4 way s.memory) (lower + frame_bias map.jumps) (at + 4 * words_of_shift map.jumps + 4) s
+      → value s.registers 1 ≡ way → (lower + way_offset map.frame) % 4 ≡ 0 → can_store s.parts (lower + way_offset map.frame) 4 ≡ true
+      → MissesFree cells s (lower + way_offset map.frame)
+      → Shifts cells code (words_of_shift map.jumps + 1) (2 ∷ []) (with_number (lower + way_offset map.frame) 4 way s.memory) (lower + frame_bias map.jumps) (at + 4 * words_of_shift map.jumps + 4) s
   frame_takes {s} stands map at pc_is takes back back_is saves lower way base_is fits way_is aligned allowed misses =
       let moved = shifts_by stands map.jumps (2 ^ 32 - map.frame) at pc_is takes in
       let lowered : value moved.after.registers 2 ≡ lower + frame_bias map.jumps =
       moved.base_is ∙ rw base_is (shifted lower map.frame (frame_bias map.jumps) fits) in
-      let address : sum_word (value moved.after.registers 2) back.word ≡ lower =
-      rw lowered (first_word lower (frame_bias map.jumps) back.word back_is (omega (arith, fits))) in
+      let address : sum_word (value moved.after.registers 2) back.word ≡ lower + way_offset map.frame =
+      rw lowered (from_pointer lower (frame_bias map.jumps) (way_offset map.frame) back.word back_is (omega (arith, fits))) in
       let saved : value moved.after.registers 1 ≡ way = moved.done.kept 1 ((λ e. cc), tt) ∙ way_is in
       let last = store_goes cells below moved.done.stands {at = at + 4 * words_of_shift map.jumps} moved.done.pc_is {base = sp} {from = ra} {offset = back}
-      {address = lower} {word = way} saves address saved aligned (rw moved.done.parts_are allowed)
-      (misses_done lower moved.done ((λ e. cc), tt) ((λ e. cc), tt) ((λ e. cc), tt) misses) in
+      {address = lower + way_offset map.frame} {word = way} saves address saved aligned (rw moved.done.parts_are allowed)
+      (misses_done (lower + way_offset map.frame) moved.done ((λ e. cc), tt) ((λ e. cc), tt) ((λ e. cc), tt) misses) in
       record {
         after = last.after;
-        done = done_as {changed' = 2 ∷ []} (done_then moved.done last.done) (ap (λ m. with_number lower 4 way m) moved.done.memory_is) refl (λ x out. out);
+        done = done_as {changed' = 2 ∷ []} (done_then moved.done last.done) (ap (λ m. with_number (lower + way_offset map.frame) 4 way m) moved.done.memory_is) refl (λ x out. out);
         base_is = last.done.kept 2 tt ∙ lowered;
       }
 
   -- the way back is loaded, and the frame given back
-  pub frame_leaves : {s : Processor} → Stands code s → (map : Map) (at : ℕ) → s.pc ≡ at → (back : Immediate) → IsFromPointer map.jumps 0 back
+  pub frame_leaves : {s : Processor} → Stands code s → (map : Map) (at : ℕ) → s.pc ≡ at → (back : Immediate) → IsFromPointer map.jumps (way_offset map.frame) back
       → code at ≡ Some (Instr.Lw ra sp back) → ShiftsStack map.jumps map.frame code (at + 4) → (base way : ℕ) → value s.registers 2 ≡ base + frame_bias map.jumps
-      → number_at s.memory base 4 ≡ way → base + map.frame + frame_bias map.jumps < 2 ^ 32 → base % 4 ≡ 0 → can_load s.parts base 4 ≡ true → MissesFree cells s base
+      → number_at s.memory (base + way_offset map.frame) 4 ≡ way → base + map.frame + frame_bias map.jumps < 2 ^ 32 → (base + way_offset map.frame) % 4 ≡ 0
+      → can_load s.parts (base + way_offset map.frame) 4 ≡ true → MissesFree cells s (base + way_offset map.frame)
       → Leaves cells code (1 + words_of_shift map.jumps) (base + map.frame + frame_bias map.jumps) way (at + 4 + 4 * words_of_shift map.jumps) s
   frame_leaves {s} stands map at pc_is back back_is loads gives base way base_is way_is fits aligned allowed misses =
-      let address : sum_word (value s.registers 2) back.word ≡ base = rw base_is (first_word base (frame_bias map.jumps) back.word back_is (omega arith)) in
-      let first = load_gets cells below stands pc_is {rd = ra} {base = sp} {offset = back} {address = base} {word = way} loads address aligned allowed way_is misses in
+      let address : sum_word (value s.registers 2) back.word ≡ base + way_offset map.frame =
+      rw base_is (from_pointer base (frame_bias map.jumps) (way_offset map.frame) back.word back_is (omega arith)) in
+      let first = load_gets cells below stands pc_is {rd = ra} {base = sp} {offset = back} {address = base + way_offset map.frame} {word = way} loads address aligned allowed way_is misses in
       let old_base : value first.after.registers 2 ≡ base + frame_bias map.jumps = first.done.kept 2 ((λ e. cc), tt) ∙ base_is in
       let second = shifts_by first.done.stands map.jumps map.frame (at + 4) first.done.pc_is gives in
       let raised : sum_word (value first.after.registers 2) map.frame ≡ base + map.frame + frame_bias map.jumps = rw old_base (omega arith) in
@@ -277,20 +276,21 @@ module _ (cells : ℕ) {code : Code} (below : (at : ℕ) (i : Instr) → code at
         record { after = second.after; done = done_as {changed' = 5 ∷ []} (done_on found.done second.done) refl (omega arith) (λ x out. out) }
 
     -- and a frame is taken
-    pub entry_takes : (lower way : ℕ) → base ≡ lower + map.frame → value s.registers 1 ≡ way → base ≢ map.bottom → lower % 4 ≡ 0 → can_store s.parts lower 4 ≡ true → MissesFree cells s lower
-        → Shifts cells code (words_to_frame map.jumps + 1 + words_of_shift map.jumps + 1) (5 ∷ 2 ∷ []) (with_number lower 4 way s.memory) (lower + frame_bias map.jumps) (at + 4 * entry_words map.jumps) s
+    pub entry_takes : (lower way : ℕ) → base ≡ lower + map.frame → value s.registers 1 ≡ way → base ≢ map.bottom → (lower + way_offset map.frame) % 4 ≡ 0 → can_store s.parts (lower + way_offset map.frame) 4 ≡ true
+        → MissesFree cells s (lower + way_offset map.frame)
+        → Shifts cells code (words_to_frame map.jumps + 1 + words_of_shift map.jumps + 1) (5 ∷ 2 ∷ []) (with_number (lower + way_offset map.frame) 4 way s.memory) (lower + frame_bias map.jumps) (at + 4 * entry_words map.jumps) s
     entry_takes lower way lower_is way_is more aligned allowed misses =
         let tested = entry_passes more in
         let old_base : value tested.after.registers 2 ≡ lower + map.frame + frame_bias map.jumps =
         tested.done.kept 2 ((λ e. cc), tt) ∙ base_is ∙ ap (λ b. b + frame_bias map.jumps) lower_is in
         let moved = frame_takes tested.done.stands map (at + 4 * words_to_frame map.jumps + 4 + 4 * words_of_jump map.jumps) tested.done.pc_is
         entry.takes entry.back entry.back_is entry.saves lower way old_base (omega (arith, fits, lower_is)) (tested.done.kept 1 ((λ e. cc), tt) ∙ way_is) aligned
-        (rw tested.done.parts_are allowed) (misses_done lower tested.done ((λ e. cc), tt) ((λ e. cc), tt) ((λ e. cc), tt) misses) in
+        (rw tested.done.parts_are allowed) (misses_done (lower + way_offset map.frame) tested.done ((λ e. cc), tt) ((λ e. cc), tt) ((λ e. cc), tt) misses) in
         let steps : words_to_frame map.jumps + 1 + (words_of_shift map.jumps + 1) ≡ words_to_frame map.jumps + 1 + words_of_shift map.jumps + 1 = omega arith in
         record {
           after = moved.after;
-          done = subst (λ n. Done cells code n (5 ∷ 2 ∷ []) (with_number lower 4 way s.memory) (at + 4 * entry_words map.jumps) s moved.after) steps
-              (done_as {changed' = 5 ∷ 2 ∷ []} (done_then tested.done moved.done) (ap (λ m. with_number lower 4 way m) tested.done.memory_is) (omega arith) (λ x out. out));
+          done = subst (λ n. Done cells code n (5 ∷ 2 ∷ []) (with_number (lower + way_offset map.frame) 4 way s.memory) (at + 4 * entry_words map.jumps) s moved.after) steps
+              (done_as {changed' = 5 ∷ 2 ∷ []} (done_then tested.done moved.done) (ap (λ m. with_number (lower + way_offset map.frame) 4 way m) tested.done.memory_is) (omega arith) (λ x out. out));
           base_is = moved.base_is;
         }
 
@@ -340,8 +340,9 @@ module _ (cells : ℕ) {code : Code} (below : (at : ℕ) (i : Instr) → code at
   -- ---- returns
 
   -- the way back is loaded, the frame given back, and the way gone
-  pub return_goes : {s : Processor} → Stands code s → (map : Map) (at : ℕ) → s.pc ≡ at → ReturnsFrom map code at → (base way : ℕ) → value s.registers 2 ≡ base + frame_bias map.jumps → number_at s.memory base 4 ≡ way
-      → way % 4 ≡ 0 → way < 2 ^ 32 → base + map.frame + frame_bias map.jumps < 2 ^ 32 → base % 4 ≡ 0 → can_load s.parts base 4 ≡ true → MissesFree cells s base
+  pub return_goes : {s : Processor} → Stands code s → (map : Map) (at : ℕ) → s.pc ≡ at → ReturnsFrom map code at → (base way : ℕ) → value s.registers 2 ≡ base + frame_bias map.jumps → number_at s.memory (base + way_offset map.frame) 4 ≡ way
+      → way % 4 ≡ 0 → way < 2 ^ 32 → base + map.frame + frame_bias map.jumps < 2 ^ 32 → (base + way_offset map.frame) % 4 ≡ 0
+      → can_load s.parts (base + way_offset map.frame) 4 ≡ true → MissesFree cells s (base + way_offset map.frame)
       → Shifts cells code (1 + words_of_shift map.jumps + 1) (1 ∷ 2 ∷ 0 ∷ []) s.memory (base + map.frame + frame_bias map.jumps) way s
   return_goes {s} stands map at pc_is returns base way base_is way_is way_word way_fits fits aligned allowed misses =
       let leaves = frame_leaves stands map at pc_is returns.back returns.back_is returns.loads returns.gives base way base_is way_is fits aligned allowed misses in

@@ -33,7 +33,7 @@ use Rattle.cell_runtime.specs.Operations.{holds}
 use Rattle.cell_heap.specs.Pool.{Pool}
 use Rattle.cell_runtime.specs.World.{World, primitives}
 use Rattle.rv_place.specs.Registers.{zero_register, ra, s3}
-use Rattle.rv_place.specs.Addresses.{words_of_shift, words_of_lines, words_to_frame, label_address, takes_frame, frames_taken, entry_words, test_words, skipped_words, frame_bias}
+use Rattle.rv_place.specs.Addresses.{words_of_shift, words_of_lines, words_to_frame, label_address, takes_frame, frames_taken, entry_words, test_words, skipped_words, frame_bias, way_offset}
 use Rattle.rv_place.specs.Instructions.{words_of_jump, JumpsTo, CallsTo, words_of_branch, BranchesOn}
 use Rattle.rv_place.specs.declared.reach.Forms.{Forms}
 use Rattle.rv_place.specs.declared.reach.Reach.{Reach}
@@ -51,7 +51,7 @@ use Rattle.rv_place.proofs.HeldTokenLinks.{is_own, roots_done, cells_done, cells
 use Rattle.rv_place.proofs.CodeLines.{bare_near, Labelled, label_found, label_there, jump_below, function_found, plain_found, few_found, entered_in, goes_to_label, jump_some, jump_most, shift_most, branch_some, branch_most, branch_below}
 use Rattle.rv_place.proofs.ArgumentWords.{words_in, in_registers, passed_known, branches_taken, branches_passed}
 use Rattle.rv_place.proofs.PassedInstructions.{walks_done, stands_part, passes_to_exit}
-use Rattle.rv_place.proofs.LineOutcomes.{or_stuck_some, NoneHanded, outside_handed, Comes, comes_go, comes_ended, runs_on, agrees_done, framed_base, bare_base, sp_low, sp_word, sp_high, sp_room, sp_last, constants_kept, stays}
+use Rattle.rv_place.proofs.LineOutcomes.{or_stuck_some, NoneHanded, outside_handed, Comes, comes_go, comes_ended, runs_on, agrees_done, framed_base, bare_base, sp_low, sp_word, sp_high, sp_room, sp_last, last_word, constants_kept, stays}
 
 -- fewer registers are known
 pub agrees_less : (known fewer : ℕ → Option ℕ) (registers : ℕ → ℕ) → ((x w : ℕ) → fewer x ≡ Some w → known x ≡ Some w) → Agrees known registers → Agrees fewer registers
@@ -194,9 +194,9 @@ takes_found jumps (function ∷ functions) zero callee is = let same : function 
 takes_found jumps (function ∷ functions) (suc g) callee is = takes_found jumps functions g callee is
 
 -- where ra is as it was, if the way back is in it
-same_way : (own : Bool) (registers after memory : ℕ → ℕ) (base : ℕ) → (own ≡ false → value after 1 ≡ value registers 1) → way_back own after memory base ≡ way_back own registers memory base
-same_way true registers after memory base link = refl
-same_way false registers after memory base link = link refl
+same_way : (own : Bool) (registers after memory : ℕ → ℕ) (last : ℕ) → (own ≡ false → value after 1 ≡ value registers 1) → way_back own after memory last ≡ way_back own registers memory last
+same_way true registers after memory last link = refl
+same_way false registers after memory last link = link refl
 
 module _ {map_of : Map} {pool : Pool} {functions : List PlacedLines} {depth buffer stop : ℕ} {code : Code} {parts : List Part} (ground : Ground map_of pool functions depth buffer stop code parts) (plain : AllPlain functions)
     (f : Frame PlacedLine) (fs : List (Frame PlacedLine)) (known : ℕ → Option ℕ) (world : World) (s : Processor)
@@ -216,30 +216,37 @@ module _ {map_of : Map} {pool : Pool} {functions : List PlacedLines} {depth buff
 
   -- ---- tail calls
 
-  -- where the frame goes on that waits
-  way_there : (way_back (takes_frame map_of.jumps f.whole) s.registers s.memory running.base % 4 ≡ 0) × (way_back (takes_frame map_of.jumps f.whole) s.registers s.memory running.base < 2 ^ 32)
-  way_there = way_fits ground s.memory (way_back (takes_frame map_of.jumps f.whole) s.registers s.memory running.base) (running.base + map_of.frame) fs running.frames.3
+  -- the last word of its frame
+  abbrev last_here : ℕ
+  last_here = running.base + way_offset map_of.frame
 
-  -- the first word of the frame may be stored, and lies behind the cells
-  frame_stores : can_store parts running.base 4 ≡ true
+  -- where the frame goes on that waits
+  way_there : (way_back (takes_frame map_of.jumps f.whole) s.registers s.memory last_here % 4 ≡ 0) × (way_back (takes_frame map_of.jumps f.whole) s.registers s.memory last_here < 2 ^ 32)
+  way_there = way_fits ground s.memory (way_back (takes_frame map_of.jumps f.whole) s.registers s.memory last_here) (running.base + map_of.frame) fs running.frames.3
+
+  -- the last word of the frame may be stored, and lies behind the cells
+  last_is_word : last_here % 4 ≡ 0
+  last_is_word = last_word running.base map_of.frame (sp_word ground f fs known world s running) ground.frame_words
+
+  frame_stores : can_store parts last_here 4 ≡ true
   frame_stores =
       let low = sp_low ground f fs known world s running in
       let high = sp_high ground f fs known world s running in
       let some = ground.some_frame in
-      ground.stores running.base low (omega arith) (sp_word ground f fs known world s running)
+      ground.stores last_here (omega arith) (omega arith) last_is_word
 
-  frame_loads : can_load parts running.base 4 ≡ true
+  frame_loads : can_load parts last_here 4 ≡ true
   frame_loads =
       let low = sp_low ground f fs known world s running in
       let high = sp_high ground f fs known world s running in
       let some = ground.some_frame in
-      ground.loads running.base low (omega arith) (sp_word ground f fs known world s running)
+      ground.loads last_here (omega arith) (omega arith) last_is_word
 
-  frame_misses : MissesFree pool.cells s running.base
+  frame_misses : MissesFree pool.cells s last_here
   frame_misses =
       let low = sp_low ground f fs known world s running in
       let under = ground.cells_below in
-      behind_misses running.cells running.base (omega arith)
+      behind_misses running.cells last_here (omega arith)
 
   frame_fits : running.base + map_of.frame + frame_bias map_of.jumps < 2 ^ 32
   frame_fits = let high = sp_high ground f fs known world s running in let range = ground.in_range in omega arith
@@ -253,7 +260,7 @@ module _ {map_of : Map} {pool : Pool} {functions : List PlacedLines} {depth buff
     -- the callee begins, in a memory that is the same
     tail_begins : (own : Bool) {n : ℕ} {changed : List ℕ} (u : Processor) → takes_frame map_of.jumps callee.code ≡ own → Done pool.cells code n changed s.memory (entry + 4 * entry_words map_of.jumps) s u
         → NoneHanded changed → list_any is_own changed ≡ false → value u.registers 2 ≡ cond own running.base (running.base + map_of.frame) + frame_bias map_of.jumps
-        → way_back own u.registers s.memory running.base ≡ way_back (takes_frame map_of.jumps f.whole) s.registers s.memory running.base
+        → way_back own u.registers s.memory last_here ≡ way_back (takes_frame map_of.jumps f.whole) s.registers s.memory last_here
         → 1 ≤ n → n ≤ 3 → Comes map_of pool functions depth stop code parts 3 old (placed_goes (placed_entered g callee) fs (passed 0 words) world) s
     tail_begins own {n} {changed} u own_is done none kept base_is way_is some few =
         comes_go map_of pool functions depth stop code parts 3 old (record { frames = placed_entered g callee ∷ fs; registers = passed 0 words; shared = world }) s u n (walks_done done)
@@ -264,7 +271,7 @@ module _ {map_of : Map} {pool : Pool} {functions : List PlacedLines} {depth buff
           (λ k w unknown. cc),
           tt,
           subst (λ w. FramesAt map_of code (most_lines functions) stop (stack_end map_of depth) s.memory w (running.base + map_of.frame) fs)
-              (sym way_is ∙ ap (λ t. way_back t u.registers s.memory running.base) (sym own_is)) running.frames.3,
+              (sym way_is ∙ ap (λ t. way_back t u.registers s.memory last_here) (sym own_is)) running.frames.3,
         )
         (agrees_done s u (passed 0 words) done none agrees) (cells_done unheld_cells (roots_done done kept) done.memory_is)) some few
 
@@ -275,7 +282,7 @@ module _ {map_of : Map} {pool : Pool} {functions : List PlacedLines} {depth buff
         let base = running.base in
         let near = bare_near map_of.jumps f.whole bare in
         let way = value s.registers 1 in
-        let way_is : way_back (takes_frame map_of.jumps f.whole) s.registers s.memory base ≡ way = ap (λ t. way_back t s.registers s.memory base) bare in
+        let way_is : way_back (takes_frame map_of.jumps f.whole) s.registers s.memory last_here ≡ way = ap (λ t. way_back t s.registers s.memory last_here) bare in
         let fits : way < 2 ^ 32 = subst (λ w. w < 2 ^ 32) way_is way_there.1 in
         let first : ℕ = entry + 4 * words_to_frame map_of.jumps + 4 + 4 * words_of_jump map_of.jumps in
         let place : entry + 4 * test_words map_of.jumps ≡ first = omega arith in
@@ -283,10 +290,10 @@ module _ {map_of : Map} {pool : Pool} {functions : List PlacedLines} {depth buff
         let gets = jump_to pool.cells ground.below running.rests.stands forms.jumps s.pc refl zero_register first (subst (JumpsTo forms.jumps code s.pc) place jumps) (omega arith) in
         let taken = frame_takes pool.cells ground.below gets.done.stands map_of first gets.done.pc_is enters.takes enters.back enters.back_is enters.saves base way
         (gets.done.kept 2 ((λ e. cc), ((λ e. cc), tt)) ∙ bare_base ground f fs known world s running bare) frame_fits (gets.link (jumps_are ∙ near) (λ e. cc))
-        (sp_word ground f fs known world s running) (rw (gets.done.parts_are, running.rests.parts_are) frame_stores)
-        (misses_done base gets.done ((λ e. cc), ((λ e. cc), tt)) ((λ e. cc), ((λ e. cc), tt)) ((λ e. cc), ((λ e. cc), tt)) frame_misses) in
+        last_is_word (rw (gets.done.parts_are, running.rests.parts_are) frame_stores)
+        (misses_done last_here gets.done ((λ e. cc), ((λ e. cc), tt)) ((λ e. cc), ((λ e. cc), tt)) ((λ e. cc), ((λ e. cc), tt)) frame_misses) in
         let last : first + 4 * words_of_shift map_of.jumps + 4 ≡ entry + 4 * entry_words map_of.jumps = omega arith in
-        let done = done_as {changed' = 1 ∷ 0 ∷ 2 ∷ []} (done_then gets.done taken.done) (ap (λ m. with_number base 4 way m) gets.done.memory_is) last (λ x out. out) in
+        let done = done_as {changed' = 1 ∷ 0 ∷ 2 ∷ []} (done_then gets.done taken.done) (ap (λ m. with_number last_here 4 way m) gets.done.memory_is) last (λ x out. out) in
         let low = sp_low ground f fs known world s running in
         let under = ground.cells_below in
         let some = ground.some_frame in
@@ -294,14 +301,14 @@ module _ {map_of : Map} {pool : Pool} {functions : List PlacedLines} {depth buff
         let shift : words_of_shift map_of.jumps ≡ 1 = ap words_of_shift near in
         comes_go map_of pool functions depth stop code parts 3 old (record { frames = placed_entered g callee ∷ fs; registers = passed 0 words; shared = world }) s taken.after (words_of_jump forms.jumps + (words_of_shift map_of.jumps + 1)) (walks_done done)
         (runs_on map_of pool functions depth stop code parts (record { frames = f ∷ fs; registers = known; shared = world }) world.cells s taken.after (placed_entered g callee ∷ fs) (passed 0 words) base running done
-        ((λ e. cc), ((λ e. cc), ((λ e. cc), tt))) (constants_kept ground f fs known world s running base way frame_stores) running.room
+        ((λ e. cc), ((λ e. cc), ((λ e. cc), tt))) (constants_kept ground f fs known world s running last_here way frame_stores) running.room
         (taken.base_is ∙ ap (λ t. cond t base (base + map_of.frame) + frame_bias map_of.jumps) (sym takes))
-        (runs_as map_of code (most_lines functions) stop (stack_end map_of depth) taken.after.registers (with_number base 4 way s.memory) (entry + 4 * entry_words map_of.jumps) base (placed_entered g callee ∷ fs)
+        (runs_as map_of code (most_lines functions) stop (stack_end map_of depth) taken.after.registers (with_number last_here 4 way s.memory) (entry + 4 * entry_words map_of.jumps) base (placed_entered g callee ∷ fs)
         (frames_pushed map_of code (most_lines functions) stop (stack_end map_of depth) ground.some_frame s.memory base way (entry + 4 * entry_words map_of.jumps) (placed_entered g callee) fs fits inside (λ k w none. cc) refl takes
         (subst (λ w. FramesAt map_of code (most_lines functions) stop (stack_end map_of depth) s.memory w (base + map_of.frame) fs) way_is running.frames.3)))
         (agrees_done s taken.after (passed 0 words) done (refl, (refl, (refl, tt))) agrees)
-        (outside-holds unheld_cells (roots_done done refl) (subst (λ m. SameInside pool s.memory m) (sym done.memory_is) (SameInside-store pool s.memory base way (inr (omega arith))))
-        (slots_below map_of (base + map_of.frame) fs s.memory taken.after.memory (λ x above. ap (λ m. number_at m x 4) done.memory_is ∙ word-apart base way s.memory x (inr (omega arith)))))) (omega arith) (omega arith)
+        (outside-holds unheld_cells (roots_done done refl) (subst (λ m. SameInside pool s.memory m) (sym done.memory_is) (SameInside-store pool s.memory last_here way (inr (omega arith))))
+        (slots_below map_of (base + map_of.frame) fs s.memory taken.after.memory (λ x above. ap (λ m. number_at m x 4) done.memory_is ∙ word-apart last_here way s.memory x (inr (omega arith)))))) (omega arith) (omega arith)
 
     -- the callee takes no frame, and the function takes one: it is given back in the entry of the callee, behind the test
     tail_leaves : takes_frame map_of.jumps f.whole ≡ true → takes_frame map_of.jumps callee.code ≡ false → PassesAt map_of code entry
@@ -309,7 +316,7 @@ module _ {map_of : Map} {pool : Pool} {functions : List PlacedLines} {depth buff
     tail_leaves takes bare passes jumps =
         let base = running.base in
         let near = bare_near map_of.jumps callee.code bare in
-        let way = number_at s.memory base 4 in
+        let way = number_at s.memory last_here 4 in
         let none : words_to_frame map_of.jumps ≡ 0 = ap words_to_frame near in
         let one : words_of_jump forms.jumps ≡ 1 = ap words_of_jump (jumps_are ∙ near) in
         let shift : words_of_shift map_of.jumps ≡ 1 = ap words_of_shift near in
@@ -318,23 +325,23 @@ module _ {map_of : Map} {pool : Pool} {functions : List PlacedLines} {depth buff
         let word = inside.at_word in
         let gets = jump_to pool.cells ground.below running.rests.stands forms.jumps s.pc refl zero_register first (subst (JumpsTo forms.jumps code s.pc) place jumps) (omega arith) in
         let leaves = frame_leaves pool.cells ground.below gets.done.stands map_of first gets.done.pc_is passes.back passes.back_is passes.loads passes.gives base way
-        (gets.done.kept 2 ((λ e. cc), ((λ e. cc), tt)) ∙ framed_base ground f fs known world s running takes) (ap (λ m. number_at m base 4) gets.done.memory_is) frame_fits
-        (sp_word ground f fs known world s running) (rw (gets.done.parts_are, running.rests.parts_are) frame_loads)
-        (misses_done base gets.done ((λ e. cc), ((λ e. cc), tt)) ((λ e. cc), ((λ e. cc), tt)) ((λ e. cc), ((λ e. cc), tt)) frame_misses) in
+        (gets.done.kept 2 ((λ e. cc), ((λ e. cc), tt)) ∙ framed_base ground f fs known world s running takes) (ap (λ m. number_at m last_here 4) gets.done.memory_is) frame_fits
+        last_is_word (rw (gets.done.parts_are, running.rests.parts_are) frame_loads)
+        (misses_done last_here gets.done ((λ e. cc), ((λ e. cc), tt)) ((λ e. cc), ((λ e. cc), tt)) ((λ e. cc), ((λ e. cc), tt)) frame_misses) in
         let last : first + 4 + 4 * words_of_shift map_of.jumps ≡ entry + 4 * entry_words map_of.jumps = omega arith in
         let done = done_as {changed' = 1 ∷ 0 ∷ 1 ∷ 2 ∷ []} (done_on gets.done leaves.done) refl last (λ x out. out) in
         tail_begins false leaves.after bare done (refl, (refl, (refl, (refl, tt)))) refl leaves.base_is
-        (leaves.way_is ∙ sym (ap (λ t. way_back t s.registers s.memory base) takes)) (omega arith) (omega arith)
+        (leaves.way_is ∙ sym (ap (λ t. way_back t s.registers s.memory last_here) takes)) (omega arith) (omega arith)
 
     -- neither or both take one
     tail_jumps : (own : Bool) → takes_frame map_of.jumps f.whole ≡ own → takes_frame map_of.jumps callee.code ≡ own
         → JumpsTo forms.jumps code s.pc (entry + 4 * entry_words map_of.jumps) → Comes map_of pool functions depth stop code parts 3 old (placed_goes (placed_entered g callee) fs (passed 0 words) world) s
     tail_jumps own own_is callee_is jumps =
         let gets = jump_to pool.cells ground.below running.rests.stands forms.jumps s.pc refl zero_register (entry + 4 * entry_words map_of.jumps) jumps inside.at_word in
-        let way = same_way own s.registers gets.after.registers s.memory running.base (λ bare. gets.link (jumps_are ∙ bare_near map_of.jumps f.whole (own_is ∙ bare)) (λ e. cc)) in
+        let way = same_way own s.registers gets.after.registers s.memory last_here (λ bare. gets.link (jumps_are ∙ bare_near map_of.jumps f.whole (own_is ∙ bare)) (λ e. cc)) in
         tail_begins own gets.after callee_is gets.done (refl, (refl, tt)) refl
         (gets.done.kept 2 ((λ e. cc), ((λ e. cc), tt)) ∙ (running.base_is ∙ ap (λ t. cond t running.base (running.base + map_of.frame) + frame_bias map_of.jumps) own_is))
-        (way ∙ ap (λ t. way_back t s.registers s.memory running.base) (sym own_is)) (jump_some forms.jumps) (omega (arith, jump_most forms.jumps))
+        (way ∙ ap (λ t. way_back t s.registers s.memory last_here) (sym own_is)) (jump_some forms.jumps) (omega (arith, jump_most forms.jumps))
 
     tail_by : (own other : Bool) → takes_frame map_of.jumps f.whole ≡ own → takes_frame map_of.jumps callee.code ≡ other → BeginsAt other map_of code entry
         → JumpsTo forms.jumps code s.pc (entry + 4 * skipped_words map_of.jumps own other) → Comes map_of pool functions depth stop code parts 3 old (placed_goes (placed_entered g callee) fs (passed 0 words) world) s
@@ -399,15 +406,16 @@ module _ {map_of : Map} {pool : Pool} {functions : List PlacedLines} {depth buff
       by (slot k) gives = tt
 
   -- the cells behind a store of the way back, below the frames
-  pushed_cells : (base : ℕ) → running.base ≡ base + map_of.frame → (u : Processor) → SameRoots s u → u.memory ≡ with_number base 4 (s.pc + 4 * words_of_jump forms.jumps) s.memory → map_of.bottom ≤ base
+  pushed_cells : (base : ℕ) → running.base ≡ base + map_of.frame → (u : Processor) → SameRoots s u
+      → u.memory ≡ with_number (base + way_offset map_of.frame) 4 (s.pc + 4 * words_of_jump forms.jumps) s.memory → map_of.bottom ≤ base
       → HoldsCells pool world.cells (links_of map_of (base + map_of.frame) (f ∷ fs)) u
   pushed_cells base base_is u roots stored low =
       let under = ground.cells_below in
       let way = s.pc + 4 * words_of_jump forms.jumps in
       let some = ground.some_frame in
       subst (λ b. HoldsCells pool world.cells (links_of map_of b (f ∷ fs)) u) base_is
-      (outside-holds running.cells roots (subst (λ m. SameInside pool s.memory m) (sym stored) (SameInside-store pool s.memory base way (inr (omega arith))))
-      (slots_below map_of running.base (f ∷ fs) s.memory u.memory (λ x above. ap (λ m. number_at m x 4) stored ∙ word-apart base way s.memory x (inr (omega arith)))))
+      (outside-holds running.cells roots (subst (λ m. SameInside pool s.memory m) (sym stored) (SameInside-store pool s.memory (base + way_offset map_of.frame) way (inr (omega arith))))
+      (slots_below map_of running.base (f ∷ fs) s.memory u.memory (λ x above. ap (λ m. number_at m x 4) stored ∙ word-apart (base + way_offset map_of.frame) way s.memory x (inr (omega arith)))))
 
   taking_comes : takes_frame map_of.jumps f.whole ≡ true → (g : ℕ) (callee : PlacedLines) (entry : ℕ) → takes_frame map_of.jumps callee.code ≡ true → EntersAt map_of code entry → (args : List Operand) (into : Option Operand) (words : List ℕ) → slice_get functions g ≡ Some callee → slice_get map_of.entries g ≡ Some entry → FunctionAt map_of code entry callee → CallsTo forms.jumps code s.pc entry
       → ((next : ℕ) → s.pc + 4 * words_of_jump forms.jumps ≡ next → next < 2 ^ 32 → IsIn map_of code (most_lines functions) next (record left_behind { into = awaited into }))
@@ -426,23 +434,24 @@ module _ {map_of : Map} {pool : Pool} {functions : List PlacedLines} {depth buff
       let some = ground.some_frame in
       let range = ground.in_range in
       let base_is : sp ≡ base + map_of.frame = omega arith in
-      let base_words : base % 4 ≡ 0 = (let a = sp_word ground f fs known world s running in let b = ground.frame_words in omega arith) in
-      let allowed : can_store parts base 4 ≡ true = ground.stores base (omega arith) (omega arith) base_words in
+      let last_below : ℕ = base + way_offset map_of.frame in
+      let last_words : last_below % 4 ≡ 0 = (let a = sp_word ground f fs known world s running in let b = ground.frame_words in omega arith) in
+      let allowed : can_store parts last_below 4 ≡ true = ground.stores last_below (omega arith) (omega arith) last_words in
       let takes = entry_takes pool.cells ground.below called.done.stands map_of entry called.done.pc_is enters full_at.0 full_at.1 sp
       (called.done.kept 2 ((λ e. cc), ((λ e. cc), tt)) ∙ framed_base ground f fs known world s running framed) (omega arith) (end_kept called.after (called.done.kept 19 ((λ e. cc), ((λ e. cc), tt))))
-      base (s.pc + 4 * words_of_jump forms.jumps) base_is (called.value_is (λ e. cc)) (λ e. omega (arith, e)) base_words
+      base (s.pc + 4 * words_of_jump forms.jumps) base_is (called.value_is (λ e. cc)) (λ e. omega (arith, e)) last_words
       (rw (called.done.parts_are, running.rests.parts_are) allowed)
-      (misses_done base called.done ((λ e. cc), ((λ e. cc), tt)) ((λ e. cc), ((λ e. cc), tt)) ((λ e. cc), ((λ e. cc), tt)) (behind_misses running.cells base (let under = ground.cells_below in omega arith))) in
-      let done = done_as {changed' = 1 ∷ 1 ∷ 5 ∷ 2 ∷ []} (done_then called.done takes.done) (ap (λ m. with_number base 4 (s.pc + 4 * words_of_jump forms.jumps) m) called.done.memory_is) refl (λ x out. out) in
+      (misses_done last_below called.done ((λ e. cc), ((λ e. cc), tt)) ((λ e. cc), ((λ e. cc), tt)) ((λ e. cc), ((λ e. cc), tt)) (behind_misses running.cells last_below (let under = ground.cells_below in omega arith))) in
+      let done = done_as {changed' = 1 ∷ 1 ∷ 5 ∷ 2 ∷ []} (done_then called.done takes.done) (ap (λ m. with_number last_below 4 (s.pc + 4 * words_of_jump forms.jumps) m) called.done.memory_is) refl (λ x out. out) in
       let after : PlacedState World = record { frames = placed_entered g callee ∷ record left_behind { into = awaited into } ∷ fs; registers = passed 0 words; shared = world } in
       let waiting : FramesAt map_of code (most_lines functions) stop (stack_end map_of depth) s.memory (s.pc + 4 * words_of_jump forms.jumps) (base + map_of.frame) (record left_behind { into = awaited into } ∷ fs) =
       subst (λ b. FramesAt map_of code (most_lines functions) stop (stack_end map_of depth) s.memory (s.pc + 4 * words_of_jump forms.jumps) b (record left_behind { into = awaited into } ∷ fs)) base_is
       (is_behind (s.pc + 4 * words_of_jump forms.jumps) refl (omega arith), stand.1, (awaits_first g into gives, framed), stand.3) in
       comes_go map_of pool functions depth stop code parts 7 old after s takes.after (words_of_jump forms.jumps + (words_to_frame map_of.jumps + 1 + words_of_shift map_of.jumps + 1)) (walks_done done)
       (runs_on map_of pool functions depth stop code parts (record { frames = f ∷ fs; registers = known; shared = world }) world.cells s takes.after after.frames (passed 0 words) base running done ((λ e. cc), ((λ e. cc), ((λ e. cc), ((λ e. cc), tt))))
-      (constants_kept ground f fs known world s running base (s.pc + 4 * words_of_jump forms.jumps) allowed) room
+      (constants_kept ground f fs known world s running last_below (s.pc + 4 * words_of_jump forms.jumps) allowed) room
       (takes.base_is ∙ ap (λ t. cond t base (base + map_of.frame) + frame_bias map_of.jumps) (sym taking))
-      (runs_as map_of code (most_lines functions) stop (stack_end map_of depth) takes.after.registers (with_number base 4 (s.pc + 4 * words_of_jump forms.jumps) s.memory) (entry + 4 * entry_words map_of.jumps) base after.frames
+      (runs_as map_of code (most_lines functions) stop (stack_end map_of depth) takes.after.registers (with_number last_below 4 (s.pc + 4 * words_of_jump forms.jumps) s.memory) (entry + 4 * entry_words map_of.jumps) base after.frames
       (frames_pushed map_of code (most_lines functions) stop (stack_end map_of depth) ground.some_frame s.memory base (s.pc + 4 * words_of_jump forms.jumps) (entry + 4 * entry_words map_of.jumps) (placed_entered g callee) (record left_behind { into = awaited into } ∷ fs) (omega arith)
       (callee_in g callee entry callee_is entry_is function) (λ k w none. cc) refl taking waiting))
       (agrees_same (passed 0 words) s.registers takes.after.registers agrees (λ x w is. done.kept x (outside_entry x (passed_high 0 words x w is))))
@@ -482,7 +491,7 @@ module _ {map_of : Map} {pool : Pool} {functions : List PlacedLines} {depth buff
         (λ k w none. cc),
         tt,
         subst (λ w. FramesAt map_of code (most_lines functions) stop (stack_end map_of depth) s.memory w (base + map_of.frame) (record left_behind { into = awaited into } ∷ fs))
-            (sym link ∙ ap (λ t. way_back t goes.after.registers s.memory base) (sym bare)) waiting,
+            (sym link ∙ ap (λ t. way_back t goes.after.registers s.memory (base + way_offset map_of.frame)) (sym bare)) waiting,
       )
       (agrees_done s goes.after (passed 0 words) done (refl, (refl, tt)) agrees)
       (subst (λ b. HoldsCells pool world.cells (links_of map_of b (f ∷ fs)) goes.after) base_is (cells_done running.cells (roots_done done refl) done.memory_is)))
@@ -536,29 +545,31 @@ module _ {map_of : Map} {pool : Pool} {functions : List PlacedLines} {depth buff
     some : 1 ≤ steps
     few : steps ≤ 4
     shifts : Shifts pool.cells code steps (1 ∷ 2 ∷ 0 ∷ []) s.memory (running.base + map_of.frame + frame_bias map_of.jumps)
-        (way_back (takes_frame map_of.jumps f.whole) s.registers s.memory running.base) s
+        (way_back (takes_frame map_of.jumps f.whole) s.registers s.memory (running.base + way_offset map_of.frame)) s
 
   -- where the function takes a frame
   framed_back : takes_frame map_of.jumps f.whole ≡ true → ReturnsFrom map_of code s.pc → (fs : List (Frame PlacedLine)) (running : Running map_of pool functions depth stop code parts (state_of fs) s)
-      → Shifts pool.cells code (1 + words_of_shift map_of.jumps + 1) (1 ∷ 2 ∷ 0 ∷ []) s.memory (running.base + map_of.frame + frame_bias map_of.jumps) (number_at s.memory running.base 4) s
+      → Shifts pool.cells code (1 + words_of_shift map_of.jumps + 1) (1 ∷ 2 ∷ 0 ∷ []) s.memory (running.base + map_of.frame + frame_bias map_of.jumps) (number_at s.memory (running.base + way_offset map_of.frame) 4) s
   framed_back framed returns fs running =
       let sp = running.base in
       let stand = waits_as map_of code (most_lines functions) stop (stack_end map_of depth) s.registers s.memory s.pc sp f fs framed running.frames in
-      let fits = way_fits ground s.memory (number_at s.memory sp 4) (sp + map_of.frame) fs stand.3 in
+      let last : ℕ = sp + way_offset map_of.frame in
+      let fits = way_fits ground s.memory (number_at s.memory last 4) (sp + map_of.frame) fs stand.3 in
       let low = sp_low ground f fs known world s running in
       let high = sp_high ground f fs known world s running in
       let some = ground.some_frame in
       let range = ground.in_range in
-      let word = sp_word ground f fs known world s running in
-      return_goes pool.cells ground.below running.rests.stands map_of s.pc refl returns sp (number_at s.memory sp 4) (framed_base ground f fs known world s running framed) refl fits.0 fits.1 (omega arith) word (rw running.rests.parts_are (ground.loads sp low (omega arith) word))
-      (behind_misses running.cells sp (let under = ground.cells_below in omega arith))
+      let word = last_word sp map_of.frame (sp_word ground f fs known world s running) ground.frame_words in
+      return_goes pool.cells ground.below running.rests.stands map_of s.pc refl returns sp (number_at s.memory last 4) (framed_base ground f fs known world s running framed) refl fits.0 fits.1 (omega arith) word (rw running.rests.parts_are (ground.loads last (omega arith) (omega arith) word))
+      (behind_misses running.cells last (let under = ground.cells_below in omega arith))
 
   -- where it takes none
   bare_back : takes_frame map_of.jumps f.whole ≡ false → GoesBack code s.pc → (fs : List (Frame PlacedLine)) (running : Running map_of pool functions depth stop code parts (state_of fs) s)
       → Shifts pool.cells code 1 (1 ∷ 2 ∷ 0 ∷ []) s.memory (running.base + map_of.frame + frame_bias map_of.jumps) (value s.registers 1) s
   bare_back bare returns fs running =
       let sp = running.base in
-      let way_is : way_back (takes_frame map_of.jumps f.whole) s.registers s.memory sp ≡ value s.registers 1 = ap (λ t. way_back t s.registers s.memory sp) bare in
+      let last : ℕ = sp + way_offset map_of.frame in
+      let way_is : way_back (takes_frame map_of.jumps f.whole) s.registers s.memory last ≡ value s.registers 1 = ap (λ t. way_back t s.registers s.memory last) bare in
       let fits = way_fits ground s.memory (value s.registers 1) (sp + map_of.frame) fs
       (subst (λ w. FramesAt map_of code (most_lines functions) stop (stack_end map_of depth) s.memory w (sp + map_of.frame) fs) way_is running.frames.3) in
       let goes = goes_back pool.cells ground.below running.rests.stands s.pc refl returns (value s.registers 1) refl fits.0 fits.1 in
@@ -575,14 +586,14 @@ module _ {map_of : Map} {pool : Pool} {functions : List PlacedLines} {depth buff
     some = omega arith;
     few = omega (arith, shift_most map_of.jumps);
     shifts = subst (λ w. Shifts pool.cells code (1 + words_of_shift map_of.jumps + 1) (1 ∷ 2 ∷ 0 ∷ []) s.memory (running.base + map_of.frame + frame_bias map_of.jumps) w s)
-        (ap (λ t. way_back t s.registers s.memory running.base) (sym own_is)) (framed_back own_is returns fs running);
+        (ap (λ t. way_back t s.registers s.memory (running.base + way_offset map_of.frame)) (sym own_is)) (framed_back own_is returns fs running);
   }
   back false own_is returns fs running = record {
     steps = 1;
     some = omega arith;
     few = omega arith;
     shifts = subst (λ w. Shifts pool.cells code 1 (1 ∷ 2 ∷ 0 ∷ []) s.memory (running.base + map_of.frame + frame_bias map_of.jumps) w s)
-        (ap (λ t. way_back t s.registers s.memory running.base) (sym own_is)) (bare_back own_is returns fs running);
+        (ap (λ t. way_back t s.registers s.memory (running.base + way_offset map_of.frame)) (sym own_is)) (bare_back own_is returns fs running);
   }
 
   return_last : ReturnsBy (takes_frame map_of.jumps f.whole) map_of code s.pc → Running map_of pool functions depth stop code parts (state_of []) s → Comes map_of pool functions depth stop code parts 4 old (ended (primitives map_of.constants pool).finished world) s
@@ -600,7 +611,7 @@ module _ {map_of : Map} {pool : Pool} {functions : List PlacedLines} {depth buff
   return_to returns free g gs running known' agrees =
       let gone = back (takes_frame map_of.jumps f.whole) refl returns (g ∷ gs) running in
       let goes = gone.shifts in
-      let way : ℕ = way_back (takes_frame map_of.jumps f.whole) s.registers s.memory running.base in
+      let way : ℕ = way_back (takes_frame map_of.jumps f.whole) s.registers s.memory (running.base + way_offset map_of.frame) in
       let newest = newest_waits map_of code (most_lines functions) stop (stack_end map_of depth) s.memory way (running.base + map_of.frame) (g ∷ gs) running.frames.3 in
       let room : length (g ∷ gs) ≤ depth = (let all = running.room in omega arith) in
       comes_go map_of pool functions depth stop code parts 4 old (record { frames = g ∷ gs; registers = known'; shared = world }) s goes.after gone.steps (walks_done goes.done)

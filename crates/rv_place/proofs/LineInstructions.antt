@@ -26,7 +26,7 @@ use Rattle.rv_isa.proofs.RangeEquality.{same_register}
 use Rattle.rv_place.specs.Registers.{s3}
 use Rattle.rv_place.specs.Instructions.{words_of_jump, JumpsTo, CallsTo, BranchesOn, HoldsToken, UnholdsToken, words_of_operation}
 use Rattle.rv_isa.specs.FrameSizes.{slots_of_place, slots_of_operands}
-use Rattle.rv_place.specs.Addresses.{branch_words, slot_offset, words_of_shift, words_of_action, words_of_line, words_of_lines, forms_of, takes_frame, words_to_frame, entry_words, skipped_words, entries_from, words_of_function, words_of_functions}
+use Rattle.rv_place.specs.Addresses.{branch_words, slot_offset, way_offset, words_of_shift, words_of_action, words_of_line, words_of_lines, forms_of, takes_frame, words_to_frame, entry_words, skipped_words, entries_from, words_of_function, words_of_functions}
 use Rattle.rv_place.specs.Lines.{Map, IsFromPointer, IsOffsetOf, OnToken, IsSymbolAt, frame_register, BeginsAt, LinesAt, FunctionsAt, BranchesTo}
 use Rattle.rv_place.specs.declared.reach.Forms.{Forms}
 use Rattle.rv_place.specs.declared.reach.Reach.{Reach}
@@ -68,8 +68,8 @@ token_slot (arg ∷ []) k is = by arg.place refl is
 slot_from : {chart : Chart} {map : Map} → Charts chart map → (jumps : Reach) → jumps ≡ map.jumps → (args : List Operand) → 4 * slots_of_operands args + 4 ≤ chart.frame → (k : ℕ) → only_slot args ≡ Some k
     → (offset : Immediate) → IsFromPointer jumps (slot_offset k) offset → IsOffsetOf map k offset
 slot_from {chart} {map} charts jumps same args inside k slot_is offset offset_is =
-    let room : slot_offset k + 4 ≤ chart.frame = omega (arith, token_slot args k slot_is, inside) in
-    (subst (λ (j : Reach). IsFromPointer j (slot_offset k) offset) same offset_is, subst (λ f. slot_offset k + 4 ≤ f) charts.frame room)
+    let room : slot_offset k + 4 ≤ way_offset chart.frame = omega (arith, token_slot args k slot_is, inside) in
+    (subst (λ (j : Reach). IsFromPointer j (slot_offset k) offset) same offset_is, subst (λ f. slot_offset k + 4 ≤ way_offset f) charts.frame room)
 
 module _ (chart : Chart) (labels : Labels) (from : ℕ) (args : List Operand) (into : Option Operand) where
   abbrev jumps : Reach

@@ -20,7 +20,7 @@ use Rattle.cell_runtime.specs.Registers.{IsOutside}
 use Rattle.std.specs.List.{list_any}
 use Rattle.cell_heap.specs.Pool.{Pool}
 use Rattle.cell_runtime.specs.World.{World, with_cells, primitives}
-use Rattle.rv_place.specs.Addresses.{takes_frame, frame_bias}
+use Rattle.rv_place.specs.Addresses.{takes_frame, frame_bias, way_offset}
 use Rattle.rv_place.specs.Lines.{Map}
 use Rattle.rv_place.specs.Grounds.{Ground, stack_end, constant_bytes}
 use Rattle.rv_place.specs.ProcessorStates.{most_lines, IsIn, StackAt, newest_taken, links_of, Agrees, Running, lines_left, StandsFor, Passing}
@@ -68,6 +68,10 @@ times_word (suc n) frame word = let rest = times_word n frame word in let more =
 pub base_word : (base n frame bottom depth : ℕ) → base + n * frame ≡ bottom + depth * frame → frame % 4 ≡ 0 → bottom % 4 ≡ 0 → base % 4 ≡ 0
 base_word base n frame bottom depth sum word bottom_word =
     let a = times_word n frame word in let b = times_word depth frame word in omega arith
+
+-- the last word of a frame is one
+pub last_word : (base frame : ℕ) → base % 4 ≡ 0 → frame % 4 ≡ 0 → (base + way_offset frame) % 4 ≡ 0
+last_word base frame base_words frame_words = omega arith
 
 -- ---- registers
 

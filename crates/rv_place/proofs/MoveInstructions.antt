@@ -9,7 +9,7 @@ use Rattle.rv_isa.specs.declared.placed.Way.TheVariants.{Copy, Load, Store}
 use Rattle.rv_isa.specs.PlacedCode.{from_of, to_of}
 use Rattle.cell_runtime.proofs.ItemEquality.{same_lw, same_sw}
 use Rattle.rv_isa.specs.FrameSizes.{slots_of_place}
-use Rattle.rv_place.specs.Addresses.{slot_offset}
+use Rattle.rv_place.specs.Addresses.{slot_offset, way_offset}
 use Rattle.rv_place.specs.declared.chart.Chart.{Chart}
 use Rattle.rv_place.specs.declared.reach.Reach.{Reach}
 use Rattle.rv_place.specs.Lines.{IsFromPointer}
@@ -30,14 +30,14 @@ module _ (chart : Chart) {old new : List Instr} where
       → stack.number ≡ 2 → Grew 1 (λ code at. code at ≡ Some (Lw to stack offset)) old new → Grew 1 (MoveBy chart way) old new
   moves_load {way} {from} {to} {stack} {offset} is offset_is inside stack_is emitted =
       let at_way : 4 * max (from + 1) 0 + 4 ≤ chart.frame = subst (Within chart) is inside in
-      let within : slot_offset from + 4 ≤ chart.frame = omega arith in
+      let within : slot_offset from + 4 ≤ way_offset chart.frame = omega arith in
       subst (λ w. Grew 1 (MoveBy chart w) old new) (sym is)
-      (grew_so refl (λ code at here map charts. (offset, (subst (λ (j : Reach). IsFromPointer j (slot_offset from) offset) charts.jumps offset_is, subst (λ f. slot_offset from + 4 ≤ f) charts.frame within), here ∙ ap Some (same_lw refl stack_is refl))) emitted)
+      (grew_so refl (λ code at here map charts. (offset, (subst (λ (j : Reach). IsFromPointer j (slot_offset from) offset) charts.jumps offset_is, subst (λ f. slot_offset from + 4 ≤ way_offset f) charts.frame within), here ∙ ap Some (same_lw refl stack_is refl))) emitted)
 
   pub moves_store : {way : Way} {from stack : Register} {to : ℕ} {offset : Immediate} → way ≡ Store from to → IsFromPointer chart.jumps (slot_offset to) offset → Within chart way
       → stack.number ≡ 2 → Grew 1 (λ code at. code at ≡ Some (Sw stack from offset)) old new → Grew 1 (MoveBy chart way) old new
   moves_store {way} {from} {stack} {to} {offset} is offset_is inside stack_is emitted =
       let at_way : 4 * max 0 (to + 1) + 4 ≤ chart.frame = subst (Within chart) is inside in
-      let within : slot_offset to + 4 ≤ chart.frame = omega arith in
+      let within : slot_offset to + 4 ≤ way_offset chart.frame = omega arith in
       subst (λ w. Grew 1 (MoveBy chart w) old new) (sym is)
-      (grew_so refl (λ code at here map charts. (offset, (subst (λ (j : Reach). IsFromPointer j (slot_offset to) offset) charts.jumps offset_is, subst (λ f. slot_offset to + 4 ≤ f) charts.frame within), here ∙ ap Some (same_sw stack_is refl refl))) emitted)
+      (grew_so refl (λ code at here map charts. (offset, (subst (λ (j : Reach). IsFromPointer j (slot_offset to) offset) charts.jumps offset_is, subst (λ f. slot_offset to + 4 ≤ way_offset f) charts.frame within), here ∙ ap Some (same_sw stack_is refl refl))) emitted)

@@ -36,7 +36,7 @@ use Rattle.cell_heap.specs.Pool.{Pool}
 use Rattle.cell_heap.proofs.Blocks.{mapped}
 use Rattle.cell_runtime.specs.World.{World, computed_in, primitives}
 use Rattle.rv_place.specs.Registers.{zero_register, sp}
-use Rattle.rv_place.specs.Addresses.{is_same_register, stands_there, gives_idly, is_silent, has_slot, takes_frame, frame_bias, slot_offset}
+use Rattle.rv_place.specs.Addresses.{is_same_register, stands_there, gives_idly, is_silent, has_slot, takes_frame, frame_bias, slot_offset, way_offset}
 use Rattle.rv_place.specs.Instructions.{form_of, words_of_form, words_of_operation}
 use Rattle.rv_place.specs.declared.reach.WordForm.{WordForm}
 use Rattle.rv_place.specs.declared.reach.WordForm.TheVariants.{Short, Upper, Both}
@@ -261,19 +261,19 @@ module _ {map_of : Map} {pool : Pool} {functions : List PlacedLines} {depth buff
   -- ---- slots
 
   -- the slot that is loaded from, or stored to
-  pub slot_address : takes_frame map_of.jumps f.whole ≡ true → (k : ℕ) (offset : ℕ) → sum_word (frame_bias map_of.jumps) offset ≡ slot_offset k → slot_offset k + 4 ≤ map_of.frame → sum_word (value s.registers 2) offset ≡ running.base + slot_offset k
+  pub slot_address : takes_frame map_of.jumps f.whole ≡ true → (k : ℕ) (offset : ℕ) → sum_word (frame_bias map_of.jumps) offset ≡ slot_offset k → slot_offset k + 4 ≤ way_offset map_of.frame → sum_word (value s.registers 2) offset ≡ running.base + slot_offset k
   slot_address takes k offset is inside =
       let high = sp_high ground f fs known world s running in let range = ground.in_range in
       rw (framed_base ground f fs known world s running takes) (from_pointer running.base (frame_bias map_of.jumps) (slot_offset k) offset is (omega arith))
 
-  pub slot_loads : (k : ℕ) → slot_offset k + 4 ≤ map_of.frame → can_load s.parts (running.base + slot_offset k) 4 ≡ true
+  pub slot_loads : (k : ℕ) → slot_offset k + 4 ≤ way_offset map_of.frame → can_load s.parts (running.base + slot_offset k) 4 ≡ true
   slot_loads k inside =
       let low = sp_low ground f fs known world s running in
       let high = sp_high ground f fs known world s running in
       let word = sp_word ground f fs known world s running in
       rw running.rests.parts_are (ground.loads (running.base + slot_offset k) (omega arith) (omega arith) (slot_word running.base k word))
 
-  pub slot_stores : (k : ℕ) → slot_offset k + 4 ≤ map_of.frame → can_store parts (running.base + slot_offset k) 4 ≡ true
+  pub slot_stores : (k : ℕ) → slot_offset k + 4 ≤ way_offset map_of.frame → can_store parts (running.base + slot_offset k) 4 ≡ true
   slot_stores k inside =
       let low = sp_low ground f fs known world s running in
       let high = sp_high ground f fs known world s running in
@@ -298,7 +298,7 @@ module _ {map_of : Map} {pool : Pool} {functions : List PlacedLines} {depth buff
         (rw (none, holds.1) same, fits)
 
     -- a word was stored in a slot that holds no held token
-    slot_stored : (k : ℕ) (word : Option ℕ) (v : ℕ) → slot_offset k + 4 ≤ map_of.frame → is_among k f.held ≡ false → (u : Processor) → SameRoots s u → u.memory ≡ with_number (running.base + slot_offset k) 4 v s.memory
+    slot_stored : (k : ℕ) (word : Option ℕ) (v : ℕ) → slot_offset k + 4 ≤ way_offset map_of.frame → is_among k f.held ≡ false → (u : Processor) → SameRoots s u → u.memory ≡ with_number (running.base + slot_offset k) 4 v s.memory
         → HoldsCells pool world.cells (links_of map_of running.base (record behind { cells = put k word f.cells } ∷ fs)) u
     slot_stored k word v inside unheld u roots stored =
         let base = running.base in

@@ -39,7 +39,7 @@ use Rattle.cell_runtime.proofs.TokenHolds.{linked, linked-outside, memory_held, 
 use Rattle.cell_runtime.proofs.Blocks.{token_view, held_holds, unheld_holds}
 use Rattle.cell_runtime.specs.World.{World, with_cells, on_cells, primitives}
 use Rattle.rv_place.specs.Registers.{zero_register, ra, sp, s1}
-use Rattle.rv_place.specs.Addresses.{takes_frame, slot_offset}
+use Rattle.rv_place.specs.Addresses.{takes_frame, slot_offset, way_offset}
 use Rattle.rv_place.specs.Instructions.{HoldsToken, UnholdsToken}
 use Rattle.rv_place.specs.declared.reach.Reach.TheVariants.{Near}
 use Rattle.rv_place.specs.Lines.{Map, IsOffsetOf, OnToken}
@@ -244,7 +244,7 @@ module _ {map_of : Map} {pool : Pool} {functions : List PlacedLines} {depth buff
     hold_null : f.cells k ≡ Some 0 → Comes map_of pool functions depth stop code parts 6 old (placed_goes behind fs known world) s
     hold_null none = null_comes k offset offset_is holds.2 6 holds.0 holds.3 hold_over hold_last (omega arith) is_behind none
 
-    is_slot : slot_offset k + 4 ≤ map_of.frame → IsSlot pool s.parts slot_here
+    is_slot : slot_offset k + 4 ≤ way_offset map_of.frame → IsSlot pool s.parts slot_here
     is_slot inside =
         let high = sp_high ground f fs known world s running in
         let low = sp_low ground f fs known world s running in

@@ -1,6 +1,6 @@
 -- Where the parts of placed code stand: how many instructions each line is, and the addresses of functions, of labels and of
 -- the runtime's routines.
-use Rattle.std.specs.Prelude.{◌==◌, ◌≡◌, ◌≢◌, ◌⊎◌, ℕ, ◌+◌, ◌*◌, List, [], ◌∷◌, Option, Some, None, Bool, true, false}
+use Rattle.std.specs.Prelude.{◌==◌, ◌≡◌, ◌≢◌, ◌⊎◌, ℕ, ◌+◌, ◌-◌, ◌*◌, List, [], ◌∷◌, Option, Some, None, Bool, true, false}
 use Rattle.std.specs.Prelude.{◌&&◌, ◌||◌, cond, nat_lt, map}
 use Rattle.std.specs.List.{list_any}
 use Rattle.rv_isa.specs.declared.asm.Action.{Action}
@@ -198,7 +198,11 @@ frame_bias Wide = reach_down
 
 -- where a slot stands above the first word of its frame
 abbrev pub slot_offset : ℕ → ℕ
-slot_offset k = 4 * k + 4
+slot_offset k = 4 * k
+
+-- where the last word of a frame of so many bytes stands above the first one: it is the way back
+abbrev pub way_offset : ℕ → ℕ
+way_offset frame = frame - 4
 
 -- ---- the runtime's symbols
 

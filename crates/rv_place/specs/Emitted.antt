@@ -23,7 +23,7 @@ use Rattle.cell_runtime.specs.Lines.{Spells}
 use Rattle.cell_runtime.specs.Lines as OfRuntime
 use Rattle.cell_runtime.specs.Operations.{address_in}
 use Rattle.rv_place.specs.Addresses.{words_of_action, words_of_shift, words_of_line, words_of_lines, words_of_function}
-use Rattle.rv_place.specs.Addresses.{words_of_functions, branch_words, jump_words, entry_words, entries_from, slot_offset}
+use Rattle.rv_place.specs.Addresses.{words_of_functions, branch_words, jump_words, entry_words, entries_from, slot_offset, way_offset}
 use Rattle.rv_place.specs.Addresses.{IsBehind, label_address}
 use Rattle.rv_place.specs.Lines.{Map, IsFromPointer, ShiftsStack, ActsAt, LineAt, LinesAt, FunctionAt, FunctionsAt, BeginsAt}
 use Rattle.rv_place.specs.Lines.{MovesBy, ReturnsBy, registers_of, register_into}
@@ -186,12 +186,12 @@ MoveBy chart way code at = (map : Map) → Charts chart map → MovesBy map code
 abbrev pub TakesFrame : Reach → ℕ → Code → ℕ → Type 0
 TakesFrame jumps size code at =
     ShiftsStack jumps (2 ^ 32 - size) code at
-    × ((back : Immediate) × IsFromPointer jumps 0 back × (code (at + 4 * words_of_shift jumps) ≡ Some (Sw sp ra back)))
+    × ((back : Immediate) × IsFromPointer jumps (way_offset size) back × (code (at + 4 * words_of_shift jumps) ≡ Some (Sw sp ra back)))
 
 -- the way back is taken from a frame of so many bytes, and the frame given back
 abbrev pub LeavesFrame : Reach → ℕ → Code → ℕ → Type 0
 LeavesFrame jumps size code at =
-    ((back : Immediate) × IsFromPointer jumps 0 back × (code at ≡ Some (Lw ra sp back)))
+    ((back : Immediate) × IsFromPointer jumps (way_offset size) back × (code at ≡ Some (Lw ra sp back)))
     × ShiftsStack jumps size code (at + 4)
 
 -- an entry, by whether the function takes a frame

@@ -25,7 +25,7 @@ use Rattle.rv_isa.specs.Standing.{Code, Has}
 use Rattle.cell_runtime.specs.Operations.{Constants}
 use Rattle.rv_place.specs.Instructions.{Zero, words_of_jump, JumpsTo, CallsTo, BranchesOn, HoldsToken, UnholdsToken, Computes}
 use Rattle.rv_place.specs.Addresses.{is_silent, words_of_line, words_of_shift, words_to_frame, label_address, forms_of}
-use Rattle.rv_place.specs.Addresses.{entry_words, skipped_words, takes_frame, frame_bias, slot_offset, IsBehind}
+use Rattle.rv_place.specs.Addresses.{entry_words, skipped_words, takes_frame, frame_bias, slot_offset, way_offset, IsBehind}
 use Rattle.rv_place.specs.declared.reach.Forms.{Forms}
 use Rattle.rv_place.specs.declared.reach.Reach.{Reach}
 use Rattle.rv_place.specs.declared.reach.Reach.TheVariants.{Near, Far, Wide}
@@ -83,7 +83,7 @@ IsFromPointer jumps above offset = sum_word (frame_bias jumps) offset.word ≡ a
 
 -- a slot of the frame: the offset of a load or a store from the stack pointer
 abbrev pub IsOffsetOf : Map → ℕ → Immediate → Type 0
-IsOffsetOf map k offset = IsFromPointer map.jumps (slot_offset k) offset × (slot_offset k + 4 ≤ map.frame)
+IsOffsetOf map k offset = IsFromPointer map.jumps (slot_offset k) offset × (slot_offset k + 4 ≤ way_offset map.frame)
 
 abbrev pub MovesBy : Map → Code → ℕ → Way → Type 0
 MovesBy map code at (Copy from to) = (imm : Immediate) × Zero imm × (code at ≡ Some (Addi to from imm))
@@ -98,10 +98,10 @@ ShiftsStack Wide size code at =
     (first : Immediate) × (second : Immediate) × (sum_word first.word second.word ≡ size)
     × Has code at (Addi sp sp first ∷ Addi sp sp second ∷ [])
 
--- a return takes the way back from the frame, gives the frame back and goes there
+-- a return takes the way back from the last word of the frame, gives the frame back and goes there
 pub record ReturnsFrom (map : Map) (code : Code) (at : ℕ) : Type 0 where
   pub back : Immediate
-  pub back_is : IsFromPointer map.jumps 0 back
+  pub back_is : IsFromPointer map.jumps (way_offset map.frame) back
   pub loads : code at ≡ Some (Lw ra sp back)
   pub gives : ShiftsStack map.jumps map.frame code (at + 4)
   pub zero : Immediate
@@ -171,14 +171,14 @@ FindsFrame Wide code at = (down : Immediate) × (down.word ≡ 2 ^ 32 - reach_do
 
 -- The entry of a function that takes a frame: where the newest frame is the lowest, which begins at the end of the cells, no
 -- frame is left, and the
--- runtime's stop for a full stack comes; else a frame is taken, and the way back saved in its first word.
+-- runtime's stop for a full stack comes; else a frame is taken, and the way back saved in its last word.
 pub record EntersAt (map : Map) (code : Code) (at : ℕ) : Type 0 where
   pub finds : FindsFrame map.jumps code at
   pub full : (target : ℕ) → IsSymbolAt map symbol.StackFull target
       → BranchesOn map.jumps Far code (at + 4 * words_to_frame map.jumps) Equal (frame_register map.jumps) s3 target
   pub takes : ShiftsStack map.jumps (2 ^ 32 - map.frame) code (at + 4 * words_to_frame map.jumps + 4 + 4 * words_of_jump map.jumps)
   pub back : Immediate
-  pub back_is : IsFromPointer map.jumps 0 back
+  pub back_is : IsFromPointer map.jumps (way_offset map.frame) back
   pub saves : code (at + 4 * words_to_frame map.jumps + 4 + 4 * words_of_jump map.jumps + 4 * words_of_shift map.jumps) ≡ Some (Sw sp ra back)
 
 -- The entry of a function that takes no frame: where no frame is left the stop comes; else the entry ends. A function that takes
@@ -190,7 +190,7 @@ pub record PassesAt (map : Map) (code : Code) (at : ℕ) : Type 0 where
   pub tests : code at ≡ Some (Bne sp s3 over)
   pub full : (target : ℕ) → IsSymbolAt map symbol.StackFull target → JumpsTo map.jumps code (at + 4) target
   pub back : Immediate
-  pub back_is : IsFromPointer map.jumps 0 back
+  pub back_is : IsFromPointer map.jumps (way_offset map.frame) back
   pub loads : code (at + 4 + 4 * words_of_jump map.jumps) ≡ Some (Lw ra sp back)
   pub gives : ShiftsStack map.jumps map.frame code (at + 4 + 4 * words_of_jump map.jumps + 4)
 

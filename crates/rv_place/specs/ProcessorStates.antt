@@ -25,7 +25,7 @@ use Rattle.cell_heap.specs.Blocks.{Cells}
 use Rattle.cell_heap.specs.ProgramMemory.{HoldsCells}
 use Rattle.cell_runtime.specs.Sizes.{runtime_words}
 use Rattle.cell_runtime.specs.World.{World, primitives}
-use Rattle.rv_place.specs.Addresses.{words_of_lines, forms_of, entry_words, takes_frame, frame_bias, slot_offset}
+use Rattle.rv_place.specs.Addresses.{words_of_lines, forms_of, entry_words, takes_frame, frame_bias, slot_offset, way_offset}
 use Rattle.rv_place.specs.Lines.{Map, LinesAt}
 use Rattle.rv_place.specs.Registers.{ra}
 use Rattle.rv_place.specs.Grounds.{stack_end, Rests}
@@ -92,7 +92,7 @@ pub record IsIn (map : Map) (code : Code) (most at : ℕ) (frame : Frame PlacedL
 -- the words of the slots of a frame
 abbrev pub Slots : Map → (ℕ → ℕ) → ℕ → (ℕ → Option ℕ) → Type 0
 Slots map memory base cells =
-    (k word : ℕ) → cells k ≡ Some word → (slot_offset k + 4 ≤ map.frame) × (number_at memory (base + slot_offset k) 4 ≡ word) × (word < 2 ^ 32)
+    (k word : ℕ) → cells k ≡ Some word → (slot_offset k + 4 ≤ way_offset map.frame) × (number_at memory (base + slot_offset k) 4 ≡ word) × (word < 2 ^ 32)
 
 -- a frame that waits for the result of a call waits for it in a0; its function takes a frame
 abbrev pub AwaitsFirst : Option ℕ → Type 0
@@ -103,21 +103,19 @@ abbrev pub IsWaiting : Map → Frame PlacedLine → Type 0
 IsWaiting map frame = AwaitsFirst frame.into × (takes_frame map.jumps frame.whole ≡ true)
 
 -- Frames that wait, from the newest one on, which goes on at an address, and whose first word is at another. Each is of a
--- function that takes a frame. The
--- first word of each is the address where the frame goes on that waits for it; behind the oldest frame that is the stop, and the
--- stack ends.
+-- function that takes a frame. The last word of each is the address where the frame goes on that waits for it; behind the oldest
+-- frame that is the stop, and the stack ends.
 abbrev pub FramesAt : Map → Code → ℕ → ℕ → ℕ → (ℕ → ℕ) → ℕ → ℕ → List (Frame PlacedLine) → Type 0
 FramesAt map code most stop roof memory at base [] = (at ≡ stop) × (base ≡ roof)
 FramesAt map code most stop roof memory at base (frame ∷ frames) =
     IsIn map code most at frame × Slots map memory base frame.cells × IsWaiting map frame
-    × FramesAt map code most stop roof memory (number_at memory base 4) (base + map.frame) frames
+    × FramesAt map code most stop roof memory (number_at memory (base + way_offset map.frame) 4) (base + map.frame) frames
 
--- where the frame goes on that waits for the running one: the address is the first word of the running one's memory, or, where
--- its function takes no
--- frame, in ra
+-- where the frame goes on that waits for the running one: that is the last word of the running one's memory, which is at an
+-- address, or, where its function takes no frame, in ra
 abbrev pub way_back : Bool → (ℕ → ℕ) → (ℕ → ℕ) → ℕ → ℕ
-way_back true registers memory base = number_at memory base 4
-way_back false registers memory base = value registers ra.number
+way_back true registers memory last = number_at memory last 4
+way_back false registers memory last = value registers ra.number
 
 -- The running frame and those that wait behind it. Where the function of the running one takes no frame, its memory is none that
 -- is taken, below the
@@ -126,7 +124,8 @@ abbrev pub StackAt : Map → Code → ℕ → ℕ → ℕ → (ℕ → ℕ) → 
 StackAt map code most stop roof registers memory at base [] = (at ≡ stop) × (base ≡ roof)
 StackAt map code most stop roof registers memory at base (frame ∷ frames) =
     IsIn map code most at frame × Slots map memory base frame.cells × AwaitsFirst frame.into
-    × FramesAt map code most stop roof memory (way_back (takes_frame map.jumps frame.whole) registers memory base) (base + map.frame) frames
+    × FramesAt map code most stop roof memory (way_back (takes_frame map.jumps frame.whole) registers memory (base + way_offset map.frame))
+    (base + map.frame) frames
 
 -- the first word of the newest frame that is taken
 abbrev pub newest_taken : Map → ℕ → List (Frame PlacedLine) → ℕ

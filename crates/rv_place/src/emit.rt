@@ -7,7 +7,7 @@ ghost use Rattle.rv_isa.specs.Sizes.{narrow_frame};
 ghost use Rattle.rv_isa.specs.declared.instr.Instr.TheVariants.{Addi};
 ghost use Rattle.rv_place.specs.declared.reach.Reach.TheVariants.{Near, Far, Wide};
 ghost use Rattle.rv_isa.specs.FrameSizes.{slots_of_place};
-ghost use Rattle.rv_place.specs.Addresses.{slot_offset, branch_words, jump_words, entry_words, test_words, frame_bias, greatest_frame, words_of_shift, words_to_frame};
+ghost use Rattle.rv_place.specs.Addresses.{slot_offset, way_offset, branch_words, jump_words, entry_words, test_words, frame_bias, greatest_frame, words_of_shift, words_to_frame};
 ghost use Rattle.rv_place.specs.Registers.{zero_register, ra, sp};
 ghost use Rattle.rv_place.specs.Instructions.{LoadsWord, SetsWord, words_of_constant, words_of_jump, words_of_branch, JumpsBy, JumpsTo, CallsTo, BranchesOn, branch_instruction};
 ghost use Rattle.rv_place.specs.Texts.{greatest_address};
@@ -268,7 +268,14 @@ pub fn slot_offset(jumps: Reach, slot: u32) -> Immediate
     requires { slot_offset slot ≤ greatest_frame jumps }
     ensures { IsFromPointer jumps (slot_offset slot) result }
 {
-    from_pointer(jumps, 4 * slot + 4)
+    from_pointer(jumps, 4 * slot)
+}
+
+/// Where the last word of a frame of so many bytes stands above the first one: it is the way back.
+fn way_offset(frame: u32) -> u32
+    ensures { result ≡ way_offset frame }
+{
+    frame.saturating_sub(4)
 }
 
 /// Adds to the stack pointer.
@@ -346,7 +353,7 @@ fn emit_leaving(code: &mut Vec<Instr>, chart: &Chart) -> Result<(), NoMemory>
         Instr::Lw {
             rd: Register::RA,
             rs1: Register::SP,
-            imm: from_pointer(chart.jumps, 0),
+            imm: from_pointer(chart.jumps, way_offset(chart.frame)),
         },
     )?;
     emit_raising(code, chart.jumps, chart.frame)?;
@@ -389,7 +396,7 @@ pub fn emit_return(code: &mut Vec<Instr>, chart: &Chart, frame: bool) -> Result<
     }
 }
 
-/// Takes a frame, and saves the way back in its first word.
+/// Takes a frame, and saves the way back in its last word.
 fn emit_taking(code: &mut Vec<Instr>, jumps: Reach, frame: u32) -> Result<(), NoMemory>
     requires some { 4 ≤ frame }
     requires few { frame ≤ greatest_frame jumps }
@@ -401,7 +408,7 @@ fn emit_taking(code: &mut Vec<Instr>, jumps: Reach, frame: u32) -> Result<(), No
         Instr::Sw {
             rs1: Register::SP,
             rs2: Register::RA,
-            imm: from_pointer(jumps, 0),
+            imm: from_pointer(jumps, way_offset(frame)),
         },
     )?;
     Ok(())

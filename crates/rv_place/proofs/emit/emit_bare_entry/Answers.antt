@@ -3,7 +3,7 @@ use Rattle.rv_isa.specs.declared.instr.Instr.TheVariants.{Lw}
 use Rattle.cell_runtime.proofs.ItemEquality.{same_bne}
 use Rattle.rv_place.specs.declared.reach.Reach.{Reach}
 use Rattle.rv_place.specs.Registers.{ra, sp}
-use Rattle.rv_place.specs.Addresses.{words_of_shift, entry_words}
+use Rattle.rv_place.specs.Addresses.{words_of_shift, entry_words, way_offset}
 use Rattle.rv_place.specs.Instructions.{words_of_jump}
 use Rattle.rv_place.specs.Lines.{IsFromPointer, ShiftsStack}
 use Rattle.rv_place.proofs.Emissions.{grew_so, grew_then}
@@ -23,7 +23,8 @@ returns c =
       tests = row.0 ∙ ap Some (same_bne refl refl refl);
       full = λ target there. entry_jump charts code at target c.args.at is inside there row.1.0;
       back = back;
-      back_is = subst (λ (j : Reach). IsFromPointer j 0 back) charts.jumps row.1.1.0.1;
+      back_is = subst (λ frame. IsFromPointer map.jumps (way_offset frame) back) charts.frame
+          (subst (λ (j : Reach). IsFromPointer j (way_offset chart.frame) back) charts.jumps row.1.1.0.1);
       loads = subst (λ (j : Reach). code (at + 4 + 4 * words_of_jump j) ≡ Some (Lw ra sp back)) charts.jumps row.1.1.0.2;
       gives =
           subst (λ (j : Reach). ShiftsStack j map.frame code (at + 4 + 4 * words_of_jump j + 4)) charts.jumps

@@ -2,7 +2,7 @@ use Rattle.std.proofs.Common.{◌≡◌, ℕ, Some, ◌+◌, ◌-◌, ◌*◌, �
 use Rattle.rv_isa.specs.declared.instr.Instr.TheVariants.{Sw}
 use Rattle.rv_place.specs.declared.reach.Reach.{Reach}
 use Rattle.rv_place.specs.Registers.{ra, sp}
-use Rattle.rv_place.specs.Addresses.{words_of_shift, words_to_frame}
+use Rattle.rv_place.specs.Addresses.{words_of_shift, words_to_frame, way_offset}
 use Rattle.rv_place.specs.Instructions.{words_of_jump}
 use Rattle.rv_place.specs.Lines.{IsFromPointer, ShiftsStack, FindsFrame}
 use Rattle.rv_place.proofs.Emissions.{grew_so, grew_then}
@@ -25,7 +25,8 @@ returns c =
           (subst (λ frame. ShiftsStack chart.jumps (2 ^ 32 - frame) code (at + 4 * words_to_frame chart.jumps + 4 + 4 * words_of_jump chart.jumps)) charts.frame
           (subst (λ p. ShiftsStack chart.jumps (2 ^ 32 - chart.frame) code p) place row.1.0));
       back = back;
-      back_is = subst (λ (j : Reach). IsFromPointer j 0 back) charts.jumps row.1.1.1;
+      back_is = subst (λ frame. IsFromPointer map.jumps (way_offset frame) back) charts.frame
+          (subst (λ (j : Reach). IsFromPointer j (way_offset chart.frame) back) charts.jumps row.1.1.1);
       saves =
           subst (λ (j : Reach). code (at + 4 * words_to_frame j + 4 + 4 * words_of_jump j + 4 * words_of_shift j) ≡ Some (Sw sp ra back)) charts.jumps
           (subst (λ p. code (p + 4 * words_of_shift chart.jumps) ≡ Some (Sw sp ra back)) place row.1.1.2);

@@ -2,7 +2,7 @@ use Rattle.std.proofs.Common.{◌≡◌, ◌+◌, ◌*◌, Some, subst, arith}
 use Rattle.rv_isa.specs.declared.instr.Instr.TheVariants.{Jalr}
 use Rattle.rv_place.specs.declared.reach.Reach.{Reach}
 use Rattle.rv_place.specs.Registers.{zero_register, ra}
-use Rattle.rv_place.specs.Addresses.{words_of_shift}
+use Rattle.rv_place.specs.Addresses.{words_of_shift, way_offset}
 use Rattle.rv_place.specs.Lines.{IsFromPointer, ShiftsStack}
 use Rattle.rv_place.proofs.Emissions.{grew_so, grew_then}
 use Rattle.rv_place.proofs.emit.emit_framed_return.Goals as goal
@@ -17,7 +17,8 @@ returns c =
     let place : at + 4 * (1 + words_of_shift chart.jumps) ≡ at + 4 + 4 * words_of_shift chart.jumps = omega arith in
     record {
       back = back;
-      back_is = subst (λ (j : Reach). IsFromPointer j 0 back) charts.jumps row.0.0.1;
+      back_is = subst (λ frame. IsFromPointer map.jumps (way_offset frame) back) charts.frame
+          (subst (λ (j : Reach). IsFromPointer j (way_offset chart.frame) back) charts.jumps row.0.0.1);
       loads = row.0.0.2;
       gives = subst (λ (j : Reach). ShiftsStack j map.frame code (at + 4)) charts.jumps
           (subst (λ frame. ShiftsStack chart.jumps frame code (at + 4)) charts.frame row.0.1);
