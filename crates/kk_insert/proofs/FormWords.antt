@@ -7,10 +7,14 @@ use Rattle.kk_syntax.specs.Patterns.{Pattern}
 use Rattle.kk_syntax.specs.PositionsOf.{PositionTable}
 use Rattle.kk_syntax.specs.Shapes.{is_among, without}
 use Rattle.kk_core.specs.Codes.{Code, give, tail_call, case, compute, use_of, unpack, inside, Arms, no_arm, arm, patterns_of}
+use Rattle.kk_core.specs.CaseLengths.{brief_node_length, brief_pair_length, most_brief}
 use Rattle.kk_core.specs.CodeNodes.{are_truths, gives, other_nodes, arms_other_nodes, first_fields, case_nodes, form_words, plain_words}
+use Rattle.kk_core.specs.CodeNodes.{reference_length, case_words, opening_words, opened_field_words, drops_words}
+use Rattle.kk_core.specs.Sizes.{most_parameters}
 use Rattle.kk_counted.proofs.ListLengths.{filter_few}
 use Rattle.kk_counted.specs.CountedCodes as Counted
 use Rattle.kk_counted.specs.Spending.{total, AreApart}
+use Rattle.kk_counted.specs.TokenLengths.{other_length, free_length, move_length}
 use Rattle.kk_insert.specs.Insertion.{common, dups, drops, dropping, opening, owns, wants, back, used, lends, own, insert}
 use Rattle.kk_insert.proofs.Gains.{used_few, lends_few}
 use Rattle.kk_insert.proofs.InsertedNodes.{some_nodes, fields_few, bodies_nodes}
@@ -50,25 +54,28 @@ none_both false b is = refl
 -- ---- an opening
 
 -- the words of an opening of so many fields, by those behind it
-words_before : (need behind plain fields first looks room_behind whole : ℕ) → need ≤ 86 + 30 * fields + behind
-    → behind + 4 * (first * first) + 8 * ((looks + fields) * first) ≤ 2 * plain + room_behind
-    → room_behind + 4 * (fields * fields) + 8 * (looks * fields) ≤ whole
-    → need + 4 * ((fields + first) * (fields + first)) + 8 * (looks * (fields + first)) ≤ 2 * (43 + 15 * fields + plain) + whole
+words_before : (need behind plain fields first looks room_behind whole : ℕ)
+    → need ≤ 2 * opening_words + 2 * opened_field_words * fields + behind
+    → behind + 2 * brief_pair_length * (first * first + 2 * ((looks + fields) * first)) ≤ 2 * plain + room_behind
+    → room_behind + 2 * brief_pair_length * (fields * fields + 2 * (looks * fields)) ≤ whole
+    → need + 2 * brief_pair_length * ((fields + first) * (fields + first) + 2 * (looks * (fields + first)))
+    ≤ 2 * (opening_words + opened_field_words * fields + plain) + whole
 words_before need behind plain fields first looks room_behind whole one two three = omega (arith, one, two, three)
 
 -- Where the code behind an opening needs no more than its room, so does the opening. Where the cell stays, its fields are owned
 -- besides. Where it is given up it becomes a token: a field is owned no more, the arm has one to spare, or the opening has a node
 -- of its own.
-pub opening_words : (positions : PositionTable) (lent fields : List ℕ) (opens : Bool) (v f t m h s x c : ℕ) (xs now : List ℕ)
+pub opening_needs : (positions : PositionTable) (lent fields : List ℕ) (opens : Bool) (v f t m h s x c : ℕ) (xs now : List ℕ)
     (code : Counted.Counted) (plain first p : ℕ) → 1 ≤ length xs → AreApart xs → AreApart now
     → total (field_weight fields) (owns lent (x ∷ []) (without xs now)) ≤ f → m + one_if opens ≤ t → h ≤ f + t
     → ((f' t' m' : ℕ) → total (field_weight (xs ++ fields)) now ≤ f' → m' + one_if (opens && is_among fields x) ≤ t'
     → h + length xs ≤ f' + t'
-    → needs m' code + 4 * (first * first) + 8 * ((h + length xs) * first) ≤ 2 * plain + room v f' t' p s)
+    → needs m' code + 2 * brief_pair_length * (first * first + 2 * ((h + length xs) * first)) ≤ 2 * plain + room v f' t' p s)
     → needs m (opening (is_among lent x || is_among now x) x c xs (common now xs) code)
-    + 4 * ((length xs + first) * (length xs + first)) + 8 * (h * (length xs + first))
-    ≤ 2 * (43 + 15 * length xs + plain) + room v f t (length xs + (if is_among fields x || opens then 0 else 1) + p) s
-opening_words positions lent fields opens v f t m h s x c xs now code plain first p some apart_xs apart most tokens tests
+    + 2 * brief_pair_length * ((length xs + first) * (length xs + first) + 2 * (h * (length xs + first)))
+    ≤ 2 * (opening_words + opened_field_words * length xs + plain)
+    + room v f t (length xs + (if is_among fields x || opens then 0 else 1) + p) s
+opening_needs positions lent fields opens v f t m h s x c xs now code plain first p some apart_xs apart most tokens tests
     later = by_test (is_among lent x || is_among now x) refl
   where
     each : total (field_weight (xs ++ fields)) now ≤ f + length xs
@@ -84,11 +91,13 @@ opening_words positions lent fields opens v f t m h s x c xs now code plain firs
 
     Goal : Bool → Bool → Bool → Type 0
     Goal stays field spare =
-        needs m (opening stays x c xs (common now xs) code) + 4 * ((length xs + first) * (length xs + first))
-        + 8 * (h * (length xs + first))
-        ≤ 2 * (43 + 15 * length xs + plain) + room v f t (length xs + (if field || spare then 0 else 1) + p) s
+        needs m (opening stays x c xs (common now xs) code)
+        + 2 * brief_pair_length * ((length xs + first) * (length xs + first) + 2 * (h * (length xs + first)))
+        ≤ 2 * (opening_words + opened_field_words * length xs + plain)
+        + room v f t (length xs + (if field || spare then 0 else 1) + p) s
 
-    open_needs : needs m (opening false x c xs (common now xs) code) ≤ 86 + 30 * length xs + needs (m + 1) code
+    open_needs : needs m (opening false x c xs (common now xs) code)
+        ≤ 2 * opening_words + 2 * opened_field_words * length xs + needs (m + 1) code
     open_needs = omega (arith, needs_open m x c xs (common now xs) code)
 
     by_field : (field spare : Bool) → is_among fields x ≡ field → opens ≡ spare → is_among lent x ≡ false → is_among now x ≡ false
@@ -145,11 +154,11 @@ opening_words positions lent fields opens v f t m h s x c xs now code plain firs
 pub value_room : (v f t m p s x need : ℕ) (rest : Code) → m ≤ t → (if gives x rest then 1 else 1 + other_nodes rest) ≡ s + 1
     → (gives x rest ≡ true → need ≤ 2 * plain_words rest)
     → need ≤ 2 * plain_words rest + room (v + 1) f t p (other_nodes rest - 1)
-    → need + 22 * m ≤ 2 * plain_words rest + room v f t p s
+    → need + 2 * other_length * m ≤ 2 * plain_words rest + room v f t p s
 value_room v f t m p s x need rest few same ending behind = by_test (gives x rest) refl same
   where
     by_test : (t' : Bool) → gives x rest ≡ t' → (if t' then 1 else 1 + other_nodes rest) ≡ s + 1
-        → need + 22 * m ≤ 2 * plain_words rest + room v f t p s
+        → need + 2 * other_length * m ≤ 2 * plain_words rest + room v f t p s
     by_test true is equal = let last = ending is in omega (arith, last, room_value v f t p s, few)
     by_test false is equal =
         let some = some_nodes rest in
@@ -160,7 +169,8 @@ module _ (positions : PositionTable) (lent : List ℕ) where
   -- what comes before the code behind a form: its dups, its drops, and its tokens
   pub compute_needs : (m : ℕ) (left : List ℕ) (x : ℕ) (form : Form) (arguments : List ℕ) (rest : Code)
       → needs m (insert positions lent left (compute x form arguments rest))
-      ≤ 2 * (form_words form arguments + 14 * length arguments + 7) + 22 * m + needs m (insert positions lent left rest)
+      ≤ 2 * (form_words form arguments + 2 * reference_length * length arguments + reference_length) + 2 * other_length * m
+      + needs m (insert positions lent left rest)
   compute_needs m left x form arguments rest =
       let now = own positions lent left rest in
       let given = lends positions form arguments in
@@ -241,30 +251,36 @@ arms_fields_few fields opens (arm pattern body rest) =
 
 -- the words of an arm and those behind it
 pub arm_before : (v f t m k p q s z g h need_arm need_body need_rest plain_body plain_rest drops_body drops_rest : ℕ)
-    → need_arm ≤ 10 * m + (14 * drops_body + need_body) + need_rest + 8 * p + 8 * (q * (s + 1)) + 8 * (p * (k + z))
-    → need_body + 4 * (g * g) ≤ 2 * plain_body + room v f t p s
-    → need_rest + 4 * (h * h) ≤ 2 * plain_rest + 14 * drops_rest + 10 * (k * m) + arms_room v f t k q z + 8 * q
+    → need_arm ≤ 2 * free_length * m + (2 * reference_length * drops_body + need_body) + need_rest
+    + 2 * move_length * (p + q * (s + 1) + p * (k + z))
+    → need_body + 2 * brief_pair_length * (g * g) ≤ 2 * plain_body + room v f t p s
+    → need_rest + 2 * brief_pair_length * (h * h)
+    ≤ 2 * plain_rest + 2 * reference_length * drops_rest + 2 * free_length * (k * m) + arms_room v f t k q z + 2 * move_length * q
     → g ≤ p → h ≤ q
-    → need_arm + 4 * ((g + h) * (g + h))
-    ≤ 2 * (plain_body + plain_rest) + 14 * (drops_body + drops_rest) + 10 * (suc k * m)
-    + arms_room v f t (suc k) (p + q) (s + z) + 8 * (p + q)
+    → need_arm + 2 * brief_pair_length * ((g + h) * (g + h))
+    ≤ 2 * (plain_body + plain_rest) + 2 * reference_length * (drops_body + drops_rest) + 2 * free_length * (suc k * m)
+    + arms_room v f t (suc k) (p + q) (s + z) + 2 * move_length * (p + q)
 arm_before v f t m k p q s z g h need_arm need_body need_rest plain_body plain_rest drops_body drops_rest one two three few fewer =
     omega (arith, one, two, three, room_arm v f t p s k q z g h few fewer)
 
 -- the words of a case, but for those of its patterns
-pub case_before : (v f t m j p s g need arms tests plain drops all : ℕ) → need ≡ 10 + 2 * tests + arms
-    → tests ≤ 56 * (suc j + g) + 2 * (suc j + g) * (suc j + g)
-    → arms + 4 * (g * g) ≤ 2 * plain + 14 * drops + 10 * (suc j * m) + arms_room v f (t + 1) (suc j) p s + 8 * p
-    → drops ≤ j * all + 1 → all ≤ 8 + f + v → m ≤ t → g ≤ p
-    → need ≤ 2 * (12 + 56 * (suc j + g) + 56 * j + plain) + room v f t (suc j + p) (suc j + s)
+pub case_before : (v f t m j p s g need arms tests plain drops all : ℕ) → need ≡ 2 * case_words + 2 * tests + arms
+    → tests ≤ most_brief (suc j + g)
+    → arms + 2 * brief_pair_length * (g * g)
+    ≤ 2 * plain + 2 * reference_length * drops + 2 * free_length * (suc j * m) + arms_room v f (t + 1) (suc j) p s
+    + 2 * move_length * p
+    → drops ≤ j * all + 1 → all ≤ most_parameters + f + v → m ≤ t → g ≤ p
+    → need ≤ 2 * (case_words + reference_length + brief_node_length * (suc j + g) + drops_words * j + plain)
+    + room v f t (suc j + p) (suc j + s)
 case_before v f t m j p s g need arms tests plain drops all is brief each dropped owned few fields =
-    let most = mul-le j all j (8 + f + v) (omega arith) owned in
+    let most = mul-le j all j (most_parameters + f + v) (omega arith) owned in
     omega (arith, is, brief, each, dropped, most, room_case v f t j p s m g few fields)
 
 -- the same of an `if`
-pub branch_before : (v f t m p s need arms tests plain drops all fields : ℕ) → need ≡ 10 + 2 * tests + arms
-    → arms + fields ≤ 2 * plain + 14 * drops + 10 * (2 * m) + arms_room v f t 2 p s + 8 * p
-    → drops ≤ 1 * all + 1 → all ≤ 8 + f + v → m ≤ t
-    → need ≤ 2 * (12 + tests + 56 * 1 + plain) + room v f t p (2 + s)
+pub branch_before : (v f t m p s need arms tests plain drops all fields : ℕ) → need ≡ 2 * case_words + 2 * tests + arms
+    → arms + fields
+    ≤ 2 * plain + 2 * reference_length * drops + 2 * free_length * (2 * m) + arms_room v f t 2 p s + 2 * move_length * p
+    → drops ≤ 1 * all + 1 → all ≤ most_parameters + f + v → m ≤ t
+    → need ≤ 2 * (case_words + reference_length + tests + drops_words * 1 + plain) + room v f t p (2 + s)
 branch_before v f t m p s need arms tests plain drops all fields is each dropped owned few =
     omega (arith, is, each, dropped, owned, room_branch v f t p s m few)

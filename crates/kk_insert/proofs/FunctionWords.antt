@@ -3,7 +3,7 @@ use Rattle.std.proofs.Common.{◌≡◌, ℕ, suc, ◌+◌, ◌-◌, ◌*◌, �
 use Rattle.kk_syntax.specs.GroundTyping.{Signature, Table}
 use Rattle.kk_syntax.specs.PositionsOf.{PositionTable}
 use Rattle.kk_syntax.specs.Shapes.{is_among, without}
-use Rattle.kk_core.specs.CodeNodes.{pattern_nodes, other_nodes, HasBriefTests}
+use Rattle.kk_core.specs.CodeNodes.{pattern_nodes, other_nodes, HasBriefTests, most_pair_words}
 use Rattle.kk_core.specs.Codes.{FunctionCode, ProgramCode}
 use Rattle.kk_core.specs.CoreTyping.{AreCodesTyped, IsCoreTyped, AreSmall, IsSmall}
 use Rattle.kk_core.specs.Sizes.{below, IsOrdered, most_parameters}
@@ -37,7 +37,8 @@ module _ (positions : PositionTable) where
       let fine = ordered_is_fine positions f function ordered in
       let only = only_parameters bound start (own_part positions lent [] bound body fine (λ y is. absurd (none y is))) in
       let low = λ (y : ℕ) (is : is_among bound y ≡ true).
-      (let less = below_less function.parameters y is in let small : suc y ≤ 8 = omega (arith, less, eight) in small) in
+      (let less = below_less function.parameters y is in
+      let small : suc y ≤ most_parameters = omega (arith, less, eight) in small) in
       let fits = few_words positions lent bound low [] false 0 0 0 0 0 (other_nodes body - 1) [] bound body fine
       (λ y is. absurd (none y is)) (λ y is. absurd (none y is)) tt brief (omega (arith, some_nodes body))
       (omega (arith, only.0)) (omega (arith, only.1)) (omega arith) (omega arith) in
@@ -52,7 +53,7 @@ module _ (positions : PositionTable) where
         eight,
         fits,
         room_whole nodes (other_nodes body - 1),
-        ap (λ n. 8 * ((nodes + n) * (nodes + n)))
+        ap (λ n. 2 * most_pair_words * ((nodes + n) * (nodes + n)))
             (let others : other_nodes body - 1 + 1 ≡ other_nodes body = omega (arith, some_nodes body) in others),
       )
     where

@@ -16,6 +16,7 @@ use Rattle.kk_counted.proofs.OwnedBounds.{few_used}
 use Rattle.kk_counted.specs.CountedCodes as Counted
 use Rattle.kk_counted.specs.CountBounds.{gains, gains_in}
 use Rattle.kk_counted.specs.Spending.{at_positions, numbers_from, is_owned}
+use Rattle.kk_insert.specs.Limits.{form_spent}
 use Rattle.kk_insert.specs.Insertion.{dups, drops, dropping, common, used, lends, owns, wants, back, opening, lent_of, own, insert, insert_arms, inserted_function}
 use Rattle.kk_insert.proofs.Lengths.{wants_few}
 use Rattle.kk_insert.proofs.TypedPrograms.{same_length}
@@ -89,7 +90,7 @@ module _ (table : Table) (few : HasFew table) where
   module _ (positions : PositionTable) (lent : List ℕ) where
     mutual
       gained : (left : List ℕ) (code : Code) (tail : Bool) (facts : Facts) (t : TypeTree) → HasCodeType table tail facts code t
-          → gains (insert positions lent left code) ≤ 25 * forms code
+          → gains (insert positions lent left code) ≤ form_spent * forms code
       gained left (give x) tail facts t has =
           let same = dups_gain (wants lent (x ∷ []) left) (Counted.give x) in
           let most = wants_few lent (x ∷ []) left in
@@ -137,7 +138,8 @@ module _ (table : Table) (few : HasFew table) where
           omega (arith, one, two, same)
 
       arms_gained : (left all : List ℕ) (arms : Arms) (tail : Bool) (facts : Facts) (x : ℕ) (u t : TypeTree)
-          → AreArmsTyped table tail facts x u arms t → gains_in (insert_arms positions lent left all arms) ≤ 25 * forms_of_arms arms
+          → AreArmsTyped table tail facts x u arms t
+          → gains_in (insert_arms positions lent left all arms) ≤ form_spent * forms_of_arms arms
       arms_gained left all no_arm tail facts x u t has = omega arith
       arms_gained left all (arm pattern body rest) tail facts x u t has =
           let same = dropping_gains all (own positions lent left body) (insert positions lent left body) in
@@ -147,7 +149,7 @@ module _ (table : Table) (few : HasFew table) where
 
   pub function_gains : (positions : PositionTable) (f : ℕ) (function : FunctionCode) (facts : Facts) (t : TypeTree)
       → HasCodeType table true facts function.body t
-      → gains (inserted_function positions f function).body ≤ 25 * forms function.body
+      → gains (inserted_function positions f function).body ≤ form_spent * forms function.body
   function_gains positions f function facts t has =
       let lent = lent_of positions f function in
       let same = dropping_gains (at_positions (is_owned positions [] f) 0 (numbers_from 0 function.parameters))

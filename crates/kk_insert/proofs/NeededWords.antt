@@ -5,10 +5,11 @@ use Rattle.std.specs.Prelude.{if◌then◌else◌}
 use Rattle.kk_syntax.specs.declared.program.Form.{Form}
 use Rattle.kk_core.specs.CaseLengths.{tests_length}
 use Rattle.kk_core.specs.Decisions.{NodeTree}
-use Rattle.kk_core.specs.CodeNodes.{form_words}
+use Rattle.kk_core.specs.CodeNodes.{form_words, reference_length, give_words, tail_call_words, argument_words, case_words, opening_words, opened_field_words}
 use Rattle.kk_counted.specs.CountedCodes.{Counted, give, tail_call, case, compute, inside, read, open_cell, if_unique, dup, drop, CountedArms, no_arm, arm}
 use Rattle.kk_counted.specs.TokenCosts.{openings, openings_of}
-use Rattle.kk_counted.specs.TokenWords.{code_words, arms_words, branch_ends, arms_ends, lacking, arms_lacking, holds_tokens, token_words, arms_token_words}
+use Rattle.kk_counted.specs.TokenLengths.{other_length, free_length, move_length}
+use Rattle.kk_counted.specs.TokenWords.{read_field_words, code_words, arms_words, branch_ends, arms_ends, lacking, arms_lacking, holds_tokens, token_words, arms_token_words}
 use Rattle.kk_insert.specs.Insertion.{dups, drops}
 
 -- ---- the tokens that ends lack
@@ -81,10 +82,11 @@ arm_lacks body rest =
 -- ---- what a block needs, form by form
 
 pub needs : ℕ → Counted → ℕ
-needs tokens code = 2 * code_words code + 2 * token_words tokens code + 8 * lacking (openings code) code
+needs tokens code = 2 * code_words code + 2 * token_words tokens code + 2 * move_length * lacking (openings code) code
 
 pub arms_need : ℕ → CountedArms → ℕ
-arms_need tokens arms = 2 * arms_words arms + 2 * arms_token_words tokens arms + 8 * arms_lacking (openings_of arms) arms
+arms_need tokens arms =
+    2 * arms_words arms + 2 * arms_token_words tokens arms + 2 * move_length * arms_lacking (openings_of arms) arms
 
 module _ (tokens : ℕ) where
   -- it is no less than the words of the code and those for its tokens
@@ -92,25 +94,26 @@ module _ (tokens : ℕ) where
   unfolding needs
   needs_all code = omega arith
 
-  pub needs_give : (x : ℕ) → needs tokens (give x) ≡ 12
+  pub needs_give : (x : ℕ) → needs tokens (give x) ≡ 2 * give_words
   unfolding needs
   needs_give x = omega arith
 
-  pub needs_call : (f : ℕ) (arguments : List ℕ) → needs tokens (tail_call f arguments) ≡ 22 + 12 * length arguments
+  pub needs_call : (f : ℕ) (arguments : List ℕ)
+      → needs tokens (tail_call f arguments) ≡ 2 * tail_call_words + 2 * argument_words * length arguments
   unfolding needs
   needs_call f arguments = omega arith
 
   pub needs_case : (x : ℕ) (decisions : List NodeTree) (arms : CountedArms)
-      → needs tokens (case x decisions arms) ≡ 10 + 2 * tests_length decisions + arms_need tokens arms
+      → needs tokens (case x decisions arms) ≡ 2 * case_words + 2 * tests_length decisions + arms_need tokens arms
   unfolding needs arms_need
   needs_case x decisions arms = omega arith
 
   pub needs_compute : (x : ℕ) (form : Form) (arguments : List ℕ) (rest : Counted)
-      → needs tokens (compute x form arguments rest) ≤ 2 * form_words form arguments + 22 * tokens + needs tokens rest
+      → needs tokens (compute x form arguments rest) ≤ 2 * form_words form arguments + 2 * other_length * tokens + needs tokens rest
   unfolding needs
   needs_compute x form arguments rest = omega (arith, by_test (holds_tokens form arguments))
     where
-      by_test : (t : Bool) → (if t then 11 * tokens else 0) ≤ 11 * tokens
+      by_test : (t : Bool) → (if t then other_length * tokens else 0) ≤ other_length * tokens
       by_test true = omega arith
       by_test false = omega arith
 
@@ -122,24 +125,27 @@ module _ (tokens : ℕ) where
       omega (arith, ap (λ n. lacking n rest) same)
 
   pub needs_read : (x c : ℕ) (fields : List ℕ) (rest : Counted)
-      → needs tokens (read x c fields rest) ≡ 8 * length fields + needs tokens rest
+      → needs tokens (read x c fields rest) ≡ 2 * read_field_words * length fields + needs tokens rest
   unfolding needs
   needs_read x c fields rest = omega arith
 
   pub needs_open : (x c : ℕ) (fields used : List ℕ) (rest : Counted)
-      → needs tokens (open_cell x c fields used rest) ≡ 86 + 30 * length fields + needs (tokens + 1) rest
+      → needs tokens (open_cell x c fields used rest)
+      ≡ 2 * opening_words + 2 * opened_field_words * length fields + needs (tokens + 1) rest
   unfolding needs
   needs_open x c fields used rest =
       let same : suc (openings rest) - 1 ≡ openings rest = omega arith in
       let next : suc tokens ≡ tokens + 1 = omega arith in
       omega (arith, ap (λ n. lacking n rest) same, ap (λ n. token_words n rest) next)
 
-  pub needs_dups : (xs : List ℕ) (code : Counted) → needs tokens (dups xs code) ≡ 14 * length xs + needs tokens code
+  pub needs_dups : (xs : List ℕ) (code : Counted)
+      → needs tokens (dups xs code) ≡ 2 * reference_length * length xs + needs tokens code
   unfolding needs
   needs_dups [] code = omega arith
   needs_dups (x ∷ xs) code = omega (arith, needs_dups xs code)
 
-  pub needs_drops : (xs : List ℕ) (code : Counted) → needs tokens (drops xs code) ≡ 14 * length xs + needs tokens code
+  pub needs_drops : (xs : List ℕ) (code : Counted)
+      → needs tokens (drops xs code) ≡ 2 * reference_length * length xs + needs tokens code
   unfolding needs
   needs_drops [] code = omega arith
   needs_drops (x ∷ xs) code = omega (arith, needs_drops xs code)
@@ -152,7 +158,7 @@ module _ (tokens : ℕ) where
   pub needs_arm : (body : Counted) (rest : CountedArms) (o e l n : ℕ) → openings body ≤ o → max 1 (branch_ends body) ≤ e
       → openings_of rest ≤ l → arms_ends rest ≤ n
       → arms_need tokens (arm body rest)
-      ≤ 10 * tokens + needs tokens body + arms_need tokens rest + 8 * o + 8 * (l * e) + 8 * (o * n)
+      ≤ 2 * free_length * tokens + needs tokens body + arms_need tokens rest + 2 * move_length * (o + l * e + o * n)
   unfolding needs arms_need
   needs_arm body rest o e l n one two three four =
       let own = mul-le (openings_of rest) (max 1 (branch_ends body)) l e three two in

@@ -4,18 +4,21 @@ use Rattle.std.specs.Prelude.{if◌then◌else◌}
 use Rattle.kk_syntax.specs.declared.program.Form.TheVariants.{Call}
 use Rattle.kk_syntax.specs.PositionsOf.{PositionTable}
 use Rattle.kk_syntax.specs.Shapes.{is_among, without}
-use Rattle.kk_core.specs.CaseLengths.{tests_length}
+use Rattle.kk_core.specs.CaseLengths.{tests_length, brief_node_length, brief_pair_length, most_brief}
 use Rattle.kk_core.specs.Codes.{Code, give, tail_call, case, compute, use_of, unpack, inside, Arms, no_arm, arm, patterns_of}
 use Rattle.kk_core.specs.Decisions.{NodeTree}
 use Rattle.kk_core.specs.CodeNodes.{are_truths, pattern_nodes, arms_pattern_nodes, other_nodes, arms_other_nodes, first_fields, case_nodes, AreBriefFor, HasBriefTests, HaveBriefTests, plain_words, arms_plain_words}
+use Rattle.kk_core.specs.CodeNodes.{reference_length, case_words, drops_words}
+use Rattle.kk_core.specs.Sizes.{most_parameters}
 use Rattle.kk_counted.proofs.ListLengths.{filter_few}
 use Rattle.kk_counted.specs.CountedCodes as Counted
 use Rattle.kk_counted.specs.Spending.{total, AreApart}
 use Rattle.kk_counted.specs.TokenCosts.{openings}
+use Rattle.kk_counted.specs.TokenLengths.{free_length, move_length}
 use Rattle.kk_insert.specs.Insertion.{drops, dropping, owns, wants, used, lends, own, own_arms, insert, insert_arms}
 use Rattle.kk_insert.proofs.Gains.{used_few}
 use Rattle.kk_insert.proofs.InsertedNodes.{some_nodes, fields_few, bodies_nodes, arms_nodes, openings_few, arms_open_few, drops_ends, ends_few, arms_end_few}
-use Rattle.kk_insert.proofs.FormWords.{one_if, truths_two, opening_words, value_room, compute_needs, value_words, bound_few, arms_fields, arms_behind, arms_others, arms_tests, arms_fields_few, arm_before, case_before, branch_before}
+use Rattle.kk_insert.proofs.FormWords.{one_if, truths_two, opening_needs, value_room, compute_needs, value_words, bound_few, arms_fields, arms_behind, arms_others, arms_tests, arms_fields_few, arm_before, case_before, branch_before}
 use Rattle.kk_insert.proofs.Lengths.{wants_few, before_few}
 use Rattle.kk_insert.proofs.NeededWords.{needs, arms_need, needs_give, needs_call, needs_case, needs_inside, needs_dups, needs_drops, needs_none, needs_arm}
 use Rattle.kk_insert.proofs.Openings.{drops_open}
@@ -25,27 +28,28 @@ use Rattle.kk_insert.proofs.Sets.{no_both, false_if, Part, among_next, in_front,
 use Rattle.kk_insert.proofs.VariableBindings.{AreBelow, IsFine, AreFine}
 use Rattle.kk_insert.proofs.WordRooms.{room, arms_room, room_inside}
 
-module _ (positions : PositionTable) (lent parameters : List ℕ) (few : AreBelow parameters 8) where
+module _ (positions : PositionTable) (lent parameters : List ℕ) (few : AreBelow parameters most_parameters) where
   -- ---- a case, by its arms
 
   -- the case of arms that need no more than their room
-  case_words : (fields : List ℕ) (v f t m s : ℕ) (left bound : List ℕ) (x : ℕ) (decisions : List NodeTree) (arms : Arms)
+  case_needs : (fields : List ℕ) (v f t m s : ℕ) (left bound : List ℕ) (x : ℕ) (decisions : List NodeTree) (arms : Arms)
       → let all = own positions lent left (case x decisions arms) in
       let truths = are_truths (patterns_of arms) in
       AreFine lent bound arms → Part left bound → AreApart left
       → AreBriefFor truths (case_nodes arms) (tests_length decisions) → 1 + arms_other_nodes arms ≡ s + 1
       → total (result_weight parameters fields) all ≤ v → total (field_weight fields) all ≤ f → m ≤ t
-      → arms_need m (insert_arms positions lent left all arms) + 4 * (arms_fields arms * arms_fields arms)
-      ≤ 2 * arms_plain_words arms + 14 * arms_drops positions lent left all arms + 10 * (length (patterns_of arms) * m)
+      → arms_need m (insert_arms positions lent left all arms) + 2 * brief_pair_length * (arms_fields arms * arms_fields arms)
+      ≤ 2 * arms_plain_words arms + 2 * reference_length * arms_drops positions lent left all arms
+      + 2 * free_length * (length (patterns_of arms) * m)
       + arms_room v f (t + one_if (not truths)) (length (patterns_of arms)) (bodies_nodes fields (not truths) arms)
       (arms_behind arms)
-      + 8 * bodies_nodes fields (not truths) arms
+      + 2 * move_length * bodies_nodes fields (not truths) arms
       → needs m (insert positions lent left (case x decisions arms))
       ≤ 2 * plain_words (case x decisions arms) + room v f t (arms_pattern_nodes fields truths arms) s
-  case_words fields v f t m s left bound x decisions no_arm fine part apart brief same results held tokens each =
+  case_needs fields v f t m s left bound x decisions no_arm fine part apart brief same results held tokens each =
       let is = needs_case m x decisions Counted.no_arm in
       omega (arith, is, needs_none m, brief)
-  case_words fields v f t m s left bound x decisions (arm pattern body rest) fine part apart brief same results held tokens each =
+  case_needs fields v f t m s left bound x decisions (arm pattern body rest) fine part apart brief same results held tokens each =
       by_test (are_truths (pattern ∷ patterns_of rest)) refl brief each
     where
       arms : Arms
@@ -54,9 +58,9 @@ module _ (positions : PositionTable) (lent parameters : List ℕ) (few : AreBelo
       all : List ℕ
       all = own positions lent left (case x decisions (arm pattern body rest))
 
-      owned : length all ≤ 8 + f + v
+      owned : length all ≤ most_parameters + f + v
       owned =
-          let most = all_few 8 parameters fields all few
+          let most = all_few most_parameters parameters fields all few
           (own_apart positions lent left (case x decisions (arm pattern body rest)) apart) in
           omega (arith, most, results, held)
 
@@ -64,17 +68,19 @@ module _ (positions : PositionTable) (lent parameters : List ℕ) (few : AreBelo
       dropped = case_drops positions lent left bound x pattern body rest fine part apart
 
       is : needs m (insert positions lent left (case x decisions (arm pattern body rest)))
-          ≡ 10 + 2 * tests_length decisions + arms_need m (insert_arms positions lent left all arms)
+          ≡ 2 * case_words + 2 * tests_length decisions + arms_need m (insert_arms positions lent left all arms)
       is = needs_case m x decisions (insert_arms positions lent left all (arm pattern body rest))
 
       by_test : (truths : Bool) → are_truths (pattern ∷ patterns_of rest) ≡ truths
           → AreBriefFor truths (case_nodes arms) (tests_length decisions)
-          → arms_need m (insert_arms positions lent left all arms) + 4 * (arms_fields arms * arms_fields arms)
-          ≤ 2 * arms_plain_words arms + 14 * arms_drops positions lent left all arms + 10 * (suc (length (patterns_of rest)) * m)
+          → arms_need m (insert_arms positions lent left all arms) + 2 * brief_pair_length * (arms_fields arms * arms_fields arms)
+          ≤ 2 * arms_plain_words arms + 2 * reference_length * arms_drops positions lent left all arms
+          + 2 * free_length * (suc (length (patterns_of rest)) * m)
           + arms_room v f (t + one_if (not truths)) (suc (length (patterns_of rest))) (bodies_nodes fields (not truths) arms)
-          (arms_behind arms) + 8 * bodies_nodes fields (not truths) arms
+          (arms_behind arms) + 2 * move_length * bodies_nodes fields (not truths) arms
           → needs m (insert positions lent left (case x decisions (arm pattern body rest)))
-          ≤ 2 * (12 + (if truths then tests_length decisions else 56 * case_nodes arms) + 56 * (suc (length (patterns_of rest)) - 1)
+          ≤ 2 * (case_words + reference_length + (if truths then tests_length decisions else brief_node_length * case_nodes arms)
+          + drops_words * (suc (length (patterns_of rest)) - 1)
           + arms_plain_words arms) + room v f t (arms_pattern_nodes fields truths arms) s
       by_test true two little need =
           let pair : suc (length (patterns_of rest)) ≡ 2 = truths_two (pattern ∷ patterns_of rest) two in
@@ -83,7 +89,7 @@ module _ (positions : PositionTable) (lent parameters : List ℕ) (few : AreBelo
           let fits = branch_before v f t m nodes (arms_behind arms)
           (needs m (insert positions lent left (case x decisions (arm pattern body rest))))
           (arms_need m (insert_arms positions lent left all arms)) (tests_length decisions) (arms_plain_words arms)
-          (arms_drops positions lent left all arms) (length all) (4 * (arms_fields arms * arms_fields arms)) is
+          (arms_drops positions lent left all arms) (length all) (2 * brief_pair_length * (arms_fields arms * arms_fields arms)) is
           (omega (
             arith,
             need,
@@ -104,7 +110,7 @@ module _ (positions : PositionTable) (lent parameters : List ℕ) (few : AreBelo
           )
       by_test false other little need =
           let nodes = bodies_nodes fields true arms in
-          let brief_tests = subst (λ n. tests_length decisions ≤ 56 * n + 2 * n * n) (arms_tests arms) little in
+          let brief_tests = subst (λ n. tests_length decisions ≤ most_brief n) (arms_tests arms) little in
           let fits = case_before v f t m (length (patterns_of rest)) nodes (arms_behind arms) (arms_fields arms)
           (needs m (insert positions lent left (case x decisions (arm pattern body rest))))
           (arms_need m (insert_arms positions lent left all arms)) (tests_length decisions) (arms_plain_words arms)
@@ -132,7 +138,8 @@ module _ (positions : PositionTable) (lent parameters : List ℕ) (few : AreBelo
         → Part fields bound → Part left bound → AreApart left → HasBriefTests code → other_nodes code ≡ s + 1
         → total (result_weight parameters fields) (own positions lent left code) ≤ v
         → total (field_weight fields) (own positions lent left code) ≤ f → m + one_if opens ≤ t → h ≤ f + t
-        → needs m (insert positions lent left code) + 4 * (first_fields code * first_fields code) + 8 * (h * first_fields code)
+        → needs m (insert positions lent left code)
+        + 2 * brief_pair_length * (first_fields code * first_fields code + 2 * (h * first_fields code))
         ≤ 2 * plain_words code + room v f t (pattern_nodes fields opens code) s
     few_words fields opens v f t m h s left bound (give x) fine within part apart brief same results held tokens tests =
         omega (arith, needs_dups m (wants lent (x ∷ []) left) (Counted.give x), needs_give m x, wants_few lent (x ∷ []) left)
@@ -152,7 +159,7 @@ module _ (positions : PositionTable) (lent parameters : List ℕ) (few : AreBelo
         let each = arms_words fields spare v f (t + one_if spare) m left bound all arms fine.1 within part apart brief.1
         (owns_after positions lent (x ∷ []) (own_arms positions lent left arms))
         (own_apart positions lent left (case x decisions arms) apart) results held (omega (arith, tokens)) in
-        let fits = case_words fields v f t m s left bound x decisions arms fine.1 part apart brief.0 same results held
+        let fits = case_needs fields v f t m s left bound x decisions arms fine.1 part apart brief.0 same results held
         (omega (arith, tokens)) each in
         omega (arith, fits)
     few_words fields opens v f t m h s left bound (compute x form arguments rest) fine within part apart brief same results held
@@ -198,7 +205,7 @@ module _ (positions : PositionTable) (lent parameters : List ℕ) (few : AreBelo
         let fewer = part_total (result_weight parameters fields) after all apart_after
         (own_apart positions lent left (unpack x c xs rest) apart) (owns_after positions lent (x ∷ []) after) in
         let few_results = opened_results parameters fields xs now in
-        opening_words positions lent fields opens v f t m h s x c xs now (insert positions lent left rest)
+        opening_needs positions lent fields opens v f t m h s x c xs now (insert positions lent left rest)
         (plain_words rest) (first_fields rest) (pattern_nodes (xs ++ fields) (opens && is_among fields x) rest) brief.0 fine.1.0
         apart_now held tokens tests
         (λ f' t' m' fields_held tokens_there looks. few_words (xs ++ fields) (opens && is_among fields x) v f' t' m' (h + length xs)
@@ -245,10 +252,11 @@ module _ (positions : PositionTable) (lent parameters : List ℕ) (few : AreBelo
         → Part fields bound → Part left bound → AreApart left → HaveBriefTests arms
         → Part (own_arms positions lent left arms) all → AreApart all → total (result_weight parameters fields) all ≤ v
         → total (field_weight fields) all ≤ f → m + one_if opens ≤ t
-        → arms_need m (insert_arms positions lent left all arms) + 4 * (arms_fields arms * arms_fields arms)
-        ≤ 2 * arms_plain_words arms + 14 * arms_drops positions lent left all arms + 10 * (length (patterns_of arms) * m)
+        → arms_need m (insert_arms positions lent left all arms) + 2 * brief_pair_length * (arms_fields arms * arms_fields arms)
+        ≤ 2 * arms_plain_words arms + 2 * reference_length * arms_drops positions lent left all arms
+        + 2 * free_length * (length (patterns_of arms) * m)
         + arms_room v f t (length (patterns_of arms)) (bodies_nodes fields opens arms) (arms_behind arms)
-        + 8 * bodies_nodes fields opens arms
+        + 2 * move_length * bodies_nodes fields opens arms
     arms_words fields opens v f t m left bound all no_arm fine within part apart brief into each results held tokens =
         omega (arith, needs_none m)
     arms_words fields opens v f t m left bound all (arm pattern body rest) fine within part apart brief into each results held

@@ -13,6 +13,10 @@ abbrev pub HaveFewFields : List ConstructorTree → Type 0
 HaveFewFields constructors =
     (c : ℕ) (one : ConstructorTree) → slice_get constructors c ≡ Some one → length one.fields ≤ most_fields
 
--- the references that a function spends at most on a path: a form takes at most eight, each with a dup, and its value
+-- the references that a form spends at most: it takes as many as a function has parameters, each with a dup, and its value
+abbrev pub form_spent : ℕ
+form_spent = 2 * most_parameters + 1
+
+-- those that a function spends at most on a path
 abbrev pub most_spent : ℕ
-most_spent = 25 * most_forms + most_parameters
+most_spent = form_spent * most_forms + most_parameters
