@@ -6,16 +6,17 @@ use Rattle.elf_image.specs.Program.{page_size}
 use Rattle.elf_image.specs.Program.{text_start, memory_start}
 use Rattle.rv_isa.specs.declared.asm.Action.{Action}
 use Rattle.rv_isa.specs.declared.asm.Action.TheVariants.{Compute, Label, Jump, Branch, Call, TailCall, Return, Routine, Hold, Unhold}
+use Rattle.rv_isa.specs.declared.placed.Operand.{Operand}
 use Rattle.rv_isa.specs.declared.placed.Placed.{Placed}
 use Rattle.rv_isa.specs.Costs.{action_length, placed_line_length, placed_code_length, placed_functions_length}
 use Rattle.rv_isa.specs.Sizes.{wide_frame}
 use Rattle.rv_isa.specs.PlacedCode.{PlacedLine, does, moves, PlacedLines, placed_functions, placed_constants}
 use Rattle.cell_runtime.specs.Operations.{all_bytes}
 use Rattle.rv_place.specs.declared.words.Words.{Words}
-use Rattle.rv_place.specs.Addresses.{is_silent, words_of_action, words_of_line, words_of_lines, words_of_functions, forms_of, words_of_shift}
+use Rattle.rv_place.specs.Addresses.{is_silent, is_at_pointer, words_of_action, words_of_line, words_of_lines, words_of_functions, forms_of, words_of_shift}
 use Rattle.rv_place.specs.declared.reach.Forms.{Forms}
 use Rattle.rv_place.specs.declared.reach.Reach.{Reach}
-use Rattle.rv_place.proofs.CodeLines.{jump_most, shift_most, branch_most}
+use Rattle.rv_place.proofs.CodeLines.{jump_most, name_most, shift_most, branch_most}
 use Rattle.rv_place.proofs.MoveSimulation.{operation_weighs}
 use Rattle.rv_place.proofs.PointerShifts.{to_frame_most}
 use Rattle.rv_place.specs.Texts.{ArePlaceable, most_text_words, most_constant_bytes, text_words, text_bytes, most_bytes, memory_of}
@@ -28,17 +29,17 @@ return_most : (frame : Bool) (jumps : Reach) → cond frame (2 + words_of_shift 
 return_most true jumps = omega (arith, shift_most jumps)
 return_most false jumps = omega arith
 
-action_most : (forms : Forms) (action : Action) → words_of_action forms action ≤ action_length action
-action_most forms (Compute operation) = (operation_weighs operation).1
-action_most forms (Label l) = omega arith
-action_most forms (Jump l) = jump_most forms.jumps
-action_most forms (Branch condition l) = branch_most forms.jumps forms.branches
-action_most forms (Call f) = omega (arith, jump_most forms.jumps)
-action_most forms (TailCall f) = omega (arith, jump_most forms.jumps)
-action_most forms Return = return_most forms.frame forms.jumps
-action_most forms (Routine routine) = jump_most forms.jumps
-action_most forms Hold = omega arith
-action_most forms Unhold = omega arith
+action_most : (forms : Forms) (action : Action) (args : List Operand) → words_of_action forms action args ≤ action_length action
+action_most forms (Compute operation) args = (operation_weighs operation).1
+action_most forms (Label l) args = omega arith
+action_most forms (Jump l) args = jump_most forms.jumps
+action_most forms (Branch condition l) args = branch_most forms.jumps forms.branches
+action_most forms (Call f) args = omega (arith, jump_most forms.jumps)
+action_most forms (TailCall f) args = omega (arith, jump_most forms.jumps)
+action_most forms Return args = return_most forms.frame forms.jumps
+action_most forms (Routine routine) args = jump_most forms.jumps
+action_most forms Hold args = omega (arith, name_most (is_at_pointer forms.jumps args))
+action_most forms Unhold args = omega arith
 
 none_or : (silent : Bool) (words most : ℕ) → words ≤ most → cond silent 0 words ≤ most
 none_or true words most few = omega arith
@@ -46,7 +47,7 @@ none_or false words most few = few
 
 line_most : (forms : Forms) (line : PlacedLine) → words_of_line forms line ≤ placed_line_length line
 line_most forms (does alive action args into) =
-    none_or (is_silent action args into) (words_of_action forms action) (action_length action) (action_most forms action)
+    none_or (is_silent action args into) (words_of_action forms action args) (action_length action) (action_most forms action args)
 line_most forms (moves alive value way) = omega arith
 
 lines_most : (forms : Forms) (lines : List PlacedLine) → words_of_lines forms lines ≤ placed_code_length lines

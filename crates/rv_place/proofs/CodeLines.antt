@@ -11,7 +11,7 @@ use Rattle.rv_isa.specs.PlacedMachine.{is_label_line, placed_entered}
 use Rattle.rv_isa.specs.Processor.{Processor}
 use Rattle.rv_isa.specs.Standing.{Code, Stands}
 use Rattle.rv_place.specs.Addresses.{words_of_shift, words_to_frame, words_of_line, words_of_lines, label_address, forms_of, entry_words, needs_frame, takes_frame}
-use Rattle.rv_place.specs.Instructions.{words_of_jump, JumpsBy, words_of_branch, BranchesOn}
+use Rattle.rv_place.specs.Instructions.{words_to_name, words_of_jump, JumpsBy, words_of_branch, BranchesOn}
 use Rattle.rv_place.specs.Registers.{zero_register}
 use Rattle.rv_place.specs.declared.reach.Forms.{Forms}
 use Rattle.rv_place.specs.declared.reach.Reach.{Reach}
@@ -104,6 +104,10 @@ pub jump_most : (reach : Reach) → words_of_jump reach ≤ 2
 jump_most Near = omega arith
 jump_most Far = omega arith
 jump_most Wide = omega arith
+
+pub name_most : (at_pointer : Bool) → words_to_name at_pointer ≤ 2
+name_most true = omega arith
+name_most false = omega arith
 
 pub shift_most : (reach : Reach) → words_of_shift reach ≤ 2
 shift_most Near = omega arith

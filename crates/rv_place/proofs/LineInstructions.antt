@@ -24,9 +24,9 @@ use Rattle.rv_isa.specs.PlacedCode.{PlacedLine, moves, PlacedLines}
 use Rattle.rv_isa.specs.Standing.{Code}
 use Rattle.rv_isa.proofs.RangeEquality.{same_register}
 use Rattle.rv_place.specs.Registers.{s3}
-use Rattle.rv_place.specs.Instructions.{words_of_jump, JumpsTo, CallsTo, BranchesOn, HoldsToken, UnholdsToken, words_of_operation}
+use Rattle.rv_place.specs.Instructions.{words_of_jump, JumpsTo, CallsTo, BranchesOn, HoldsToken, words_to_hold, UnholdsToken, words_of_operation}
 use Rattle.rv_isa.specs.FrameSizes.{slots_of_place, slots_of_operands}
-use Rattle.rv_place.specs.Addresses.{branch_words, slot_offset, way_offset, words_of_shift, words_of_action, words_of_line, words_of_lines, forms_of, takes_frame, words_to_frame, entry_words, skipped_words, entries_from, words_of_function, words_of_functions}
+use Rattle.rv_place.specs.Addresses.{branch_words, is_at_pointer, slot_offset, way_offset, words_of_shift, words_of_action, words_of_line, words_of_lines, forms_of, takes_frame, words_to_frame, entry_words, skipped_words, entries_from, words_of_function, words_of_functions}
 use Rattle.rv_place.specs.Lines.{Map, IsFromPointer, IsOffsetOf, OnToken, IsSymbolAt, frame_register, BeginsAt, LinesAt, FunctionsAt, BranchesTo}
 use Rattle.rv_place.specs.declared.reach.Forms.{Forms}
 use Rattle.rv_place.specs.declared.reach.Reach.{Reach}
@@ -77,7 +77,7 @@ module _ (chart : Chart) (labels : Labels) (from : ℕ) (args : List Operand) (i
 
   -- an action was added
   abbrev Acted : List Instr → List Instr → Action → Type 0
-  Acted old new a = Grew (words_of_action labels.forms a) (ActionBy chart labels from a args into) old new
+  Acted old new a = Grew (words_of_action labels.forms a args) (ActionBy chart labels from a args into) old new
 
   -- a jump, and a call, to a word that is an address that it reaches
   jumps_to : (code : Code) (at word target : ℕ) → at ≡ from → (at ≡ from → JumpReaches jumps at word → JumpsTo jumps code at word) → word ≡ target → JumpReaches jumps at target → JumpsTo jumps code at target
@@ -170,12 +170,12 @@ module _ (chart : Chart) (labels : Labels) (from : ℕ) (args : List Operand) (i
         (text_reaches charts inside target (omega (arith, target_is, charts.first_word)) (omega (arith, target_is)) (omega (arith, target_is, high))))
         emitted)
 
-    pub on_hold : action ≡ Hold → 4 * slots_of_operands args + 4 ≤ chart.frame → Grew 6 (TokenBy HoldsToken jumps args) old new
+    pub on_hold : action ≡ Hold → 4 * slots_of_operands args + 4 ≤ chart.frame → Grew (words_to_hold (is_at_pointer jumps args)) (TokenBy (HoldsToken (is_at_pointer jumps args)) jumps args) old new
         → Acted old new action
     on_hold is inside emitted =
         subst (Acted old new) (sym is)
         (grew_so refl
-        (λ code at here is_at map charts start whole has within. on_token HoldsToken code at charts within.jumps inside here) emitted)
+        (λ code at here is_at map charts start whole has within. on_token (HoldsToken (is_at_pointer jumps args)) code at charts within.jumps inside here) emitted)
 
     pub on_unhold : action ≡ Unhold → 4 * slots_of_operands args + 4 ≤ chart.frame → Grew 3 (TokenBy UnholdsToken jumps args) old new
         → Acted old new action

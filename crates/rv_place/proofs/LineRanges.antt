@@ -37,17 +37,17 @@ return_some true jumps = omega arith
 return_some false jumps = omega arith
 
 -- what is no label is an instruction at least
-action_some : (forms : Forms) (action : Action) → is_no_label action ≡ true → 1 ≤ words_of_action forms action
-action_some forms (Compute operation) some = (operation_weighs operation).0
-action_some forms (Label l) some = cc
-action_some forms (Jump l) some = jump_some forms.jumps
-action_some forms (Branch condition l) some = branch_some forms.jumps forms.branches
-action_some forms (Call f) some = jump_some forms.jumps
-action_some forms (TailCall f) some = jump_some forms.jumps
-action_some forms Return some = return_some forms.frame forms.jumps
-action_some forms (Routine routine) some = jump_some forms.jumps
-action_some forms Hold some = omega arith
-action_some forms Unhold some = omega arith
+action_some : (forms : Forms) (action : Action) (args : List Operand) → is_no_label action ≡ true → 1 ≤ words_of_action forms action args
+action_some forms (Compute operation) args some = (operation_weighs operation).0
+action_some forms (Label l) args some = cc
+action_some forms (Jump l) args some = jump_some forms.jumps
+action_some forms (Branch condition l) args some = branch_some forms.jumps forms.branches
+action_some forms (Call f) args some = jump_some forms.jumps
+action_some forms (TailCall f) args some = jump_some forms.jumps
+action_some forms Return args some = return_some forms.frame forms.jumps
+action_some forms (Routine routine) args some = jump_some forms.jumps
+action_some forms Hold args some = omega arith
+action_some forms Unhold args some = omega arith
 
 not_at_home : (home : Option ℕ) (place : Place) → is_none home ≡ true → is_in_any home place ≡ false
 not_at_home None place none = refl
@@ -80,7 +80,7 @@ line_some forms (does alive action args into) some =
     let loud : is_silent action args into ≡ false
     = neither (is_copy action) (stands_there args into) (gives_idly action into) apart.0
     (never_idle action into apart.1 made.1) in
-    subst (λ silent. 1 ≤ cond silent 0 (words_of_action forms action)) (sym loud) (action_some forms action both.0)
+    subst (λ silent. 1 ≤ cond silent 0 (words_of_action forms action args)) (sym loud) (action_some forms action args both.0)
 line_some forms (moves alive value way) some = omega arith
 
 -- such a line ends at the end of the lines at most

@@ -62,8 +62,8 @@ module _ {map_of : Map} {pool : Pool} {functions : List PlacedLines} {depth buff
     module _ (alive : List Listed) (args : List Operand) (into : Option Operand) (words : List ℕ) (words_are : all_of (map (λ (arg : Operand). read_at known f.cells arg.place) args) ≡ Some words) (turn : PlacedTurn World Ending) (good : turn ≢ stuck) where
       -- an action that is not silent has the instructions of its own
       loud_words : (action : Action) → is_silent action args into ≡ false
-          → s.pc + 4 * words_of_line running.frames.0.forms (does alive action args into) ≡ s.pc + 4 * words_of_action running.frames.0.forms action
-      loud_words action loud = ap (λ silent. s.pc + 4 * cond silent 0 (words_of_action running.frames.0.forms action)) loud
+          → s.pc + 4 * words_of_line running.frames.0.forms (does alive action args into) ≡ s.pc + 4 * words_of_action running.frames.0.forms action args
+      loud_words action loud = ap (λ silent. s.pc + 4 * cond silent 0 (words_of_action running.frames.0.forms action args)) loud
 
       -- what an action does
       follow_action : (action : Action) → f.code ≡ does alive action args into ∷ rest → conforms action args into ≡ true
@@ -107,6 +107,7 @@ module _ {map_of : Map} {pool : Pool} {functions : List PlacedLines} {depth buff
       follow_action Hold code_is conform loud is =
           let line = does alive Hold args into in
           follow_hold ground f fs known world s running rest (suc (length rest)) (line_takes running.frames.0 line rest code_is refl) args into words turn good words_are
+          (ap (λ (forms : Forms). forms.jumps) running.frames.0.forms_are)
           (λ next next_is below. goes_behind running.frames.0 line rest code_is next (record f { code = rest }) refl refl refl (loud_words Hold loud ∙ next_is) below) (line_at running.frames.0 line rest code_is loud) is
       follow_action Unhold code_is conform loud is =
           let line = does alive Unhold args into in
@@ -121,7 +122,7 @@ module _ {map_of : Map} {pool : Pool} {functions : List PlacedLines} {depth buff
           let line = does alive action args into in
           let same : s.pc + 4 * 0 ≡ s.pc = omega arith in
           let here : s.pc + 4 * words_of_line running.frames.0.forms line ≡ s.pc
-          = ap (λ quiet. s.pc + 4 * cond quiet 0 (words_of_action running.frames.0.forms action)) silent ∙ same in
+          = ap (λ quiet. s.pc + 4 * cond quiet 0 (words_of_action running.frames.0.forms action args)) silent ∙ same in
           comes_within (instructions_of (primitives map_of.constants pool) action (Some words) (top (f ∷ fs)) world) (omega arith)
           (follow_silent ground f fs known world s running rest (suc (length rest)) action args into words turn silent
           (goes_behind running.frames.0 line rest code_is s.pc (record f { code = rest }) refl refl refl here running.frames.0.below) (omega arith) words_are is good)

@@ -1,5 +1,5 @@
 -- Tokens that are held and taken back by the machine of the placed form, followed by the processor.
-use Rattle.std.proofs.Common.{◌≡◌, ◌≢◌, ◌==◌, ◌≤◌, ◌<◌, ◌⊎◌, inl, inr, ℕ, zero, suc, ◌+◌, ◌*◌, ◌^◌, List, [], ◌∷◌}
+use Rattle.std.proofs.Common.{◌≡◌, ◌≢◌, ◌==◌, ◌≤◌, ◌<◌, ◌⊎◌, inl, inr, ℕ, zero, suc, ◌+◌, ◌*◌, ◌/◌, ◌^◌, List, [], ◌∷◌}
 use Rattle.std.proofs.Common.{map, Option, Some, None, Bool, true, false, cond, option_map, refl, sym, ap, ◌∙◌, subst}
 use Rattle.std.proofs.Common.{arith, lit<, nat_eq}
 use Rattle.std.proofs.lemmas.Bool.Decides.{nat_tests}
@@ -39,9 +39,11 @@ use Rattle.cell_runtime.proofs.TokenHolds.{linked, linked-outside, memory_held, 
 use Rattle.cell_runtime.proofs.Blocks.{token_view, held_holds, unheld_holds}
 use Rattle.cell_runtime.specs.World.{World, with_cells, on_cells, primitives}
 use Rattle.rv_place.specs.Registers.{zero_register, ra, sp, s1}
-use Rattle.rv_place.specs.Addresses.{takes_frame, slot_offset, way_offset}
-use Rattle.rv_place.specs.Instructions.{HoldsToken, UnholdsToken}
-use Rattle.rv_place.specs.declared.reach.Reach.TheVariants.{Near}
+use Rattle.rv_place.specs.Addresses.{takes_frame, frame_bias, pointer_slot, is_pointer_slot, is_at_pointer, slot_offset, way_offset}
+use Rattle.rv_place.specs.Instructions.{NamesSlot, words_to_name, HoldsToken, words_to_hold, UnholdsToken}
+use Rattle.rv_isa.specs.Sizes.{reach_down}
+use Rattle.rv_place.specs.declared.reach.Reach.{Reach}
+use Rattle.rv_place.specs.declared.reach.Reach.TheVariants.{Near, Far, Wide}
 use Rattle.rv_place.specs.Lines.{Map, IsOffsetOf, OnToken}
 use Rattle.rv_place.specs.Grounds.{Ground, stack_end, constant_bytes}
 use Rattle.rv_place.specs.ProcessorStates.{most_lines, IsIn, StackAt, word_of, links_in, links_of, Running}
@@ -53,8 +55,15 @@ use Rattle.rv_place.proofs.InstructionRows.{branch_taken, branch_passed}
 use Rattle.rv_place.proofs.FrameMemory.{stack_kept}
 use Rattle.rv_place.proofs.HeldTokenLinks.{slots_in, roots_done, slots_apart, is_in_again}
 use Rattle.rv_place.proofs.LineOutcomes.{or_stuck_some, Comes, comes_go, runs_on, agrees_done, stays, sp_low, sp_word, sp_high}
-use Rattle.rv_place.proofs.LineOutcomes.{constants_kept}
+use Rattle.rv_place.proofs.LineOutcomes.{framed_base, constants_kept}
+use Rattle.rv_place.proofs.CodeLines.{name_most}
 use Rattle.rv_place.proofs.MoveSimulation.{slot_word, slot_address, slot_loads, slot_stores, slot_misses}
+
+-- the slot at the stack pointer
+slot_at_pointer : (jumps : Reach) (k : ℕ) → (k == pointer_slot jumps) ≡ true → slot_offset k ≡ frame_bias jumps
+slot_at_pointer Near k test = let e : k ≡ 0 = eqb-true k 0 test in omega arith
+slot_at_pointer Far k test = let e : k ≡ 0 = eqb-true k 0 test in omega arith
+slot_at_pointer Wide k test = let e : k ≡ reach_down / 4 = eqb-true k (reach_down / 4) test in omega arith
 
 none_if : (n : ℕ) → (n ≢ 0 → ⊥) → n ≡ 0
 none_if zero never = refl
@@ -209,14 +218,14 @@ module _ {map_of : Map} {pool : Pool} {functions : List PlacedLines} {depth buff
       over_rest = omega (arith, last, over_is)
 
       -- where that is 0, the branch leads over the rest
-      null_comes : 2 ≤ words → GoesBehind words → f.cells k ≡ Some 0
-          → Comes map_of pool functions depth stop code parts words old (placed_goes behind fs known world) s
-      null_comes some is_behind none =
+      null_comes : (most : ℕ) → 2 ≤ most → GoesBehind words → f.cells k ≡ Some 0
+          → Comes map_of pool functions depth stop code parts most old (placed_goes behind fs known world) s
+      null_comes most some is_behind none =
           let word = running.frames.0.at_word in
           let taken = branch_taken pool.cells ground.below looks.done.stands (s.pc + 4) looks.done.pc_is Equal ra zero_register
           (s.pc + 4 * words) Near Near (over, over_rest, there) (omega arith) (rw (looked 0 none) refl) in
           let done = done_on looks.done taken.done in
-          stays ground f fs known world s running words old taken.after rest known done
+          stays ground f fs known world s running most old taken.after rest known done
           ((λ e. cc), ((λ e. cc), ((λ e. cc), tt))) refl (spare_link taken.after)
           (is_behind (s.pc + 4 * words) refl last)
           (agrees_done s taken.after known done (refl, (refl, (refl, tt))) running.registers) (omega arith) (omega arith)
@@ -230,19 +239,21 @@ module _ {map_of : Map} {pool : Pool} {functions : List PlacedLines} {depth buff
 
   -- ---- hold
 
-  module _ (k : ℕ) (offset : Immediate) (offset_is : IsOffsetOf map_of k offset) (holds : HoldsToken code s.pc offset)
-      (is_behind : GoesBehind 6) where
+  module _ (k : ℕ) (offset : Immediate) (offset_is : IsOffsetOf map_of k offset) (at_pointer : Bool)
+      (pointer_is : at_pointer ≡ true → value s.registers 2 ≡ base + slot_offset k) (holds : HoldsToken at_pointer code s.pc offset)
+      (is_behind : GoesBehind (words_to_hold at_pointer)) where
     abbrev slot_here : ℕ
     slot_here = base + slot_offset k
 
-    hold_last : s.pc + 4 * 6 < 2 ^ 32
-    hold_last = let last = ground.below (s.pc + 4 + 4 + 4 + 4 + 4) _ holds.4.4.1.1.1.0 in omega arith
+    hold_last : s.pc + 4 * words_to_hold at_pointer < 2 ^ 32
+    hold_last = let last = ground.below (s.pc + 4 + 4 + 4 + 4 * words_to_name at_pointer) _ holds.4.4 in omega arith
 
-    hold_over : holds.0.word + 4 ≡ 4 * 6
-    hold_over = rw holds.1 refl
+    hold_over : holds.0.word + 4 ≡ 4 * words_to_hold at_pointer
+    hold_over = rw holds.1 (omega arith)
 
     hold_null : f.cells k ≡ Some 0 → Comes map_of pool functions depth stop code parts 6 old (placed_goes behind fs known world) s
-    hold_null none = null_comes k offset offset_is holds.2 6 holds.0 holds.3 hold_over hold_last (omega arith) is_behind none
+    hold_null none = null_comes k offset offset_is holds.2 (words_to_hold at_pointer) holds.0 holds.3
+        hold_over hold_last 6 (omega arith) is_behind none
 
     is_slot : slot_offset k + 4 ≤ way_offset map_of.frame → IsSlot pool s.parts slot_here
     is_slot inside =
@@ -304,10 +315,18 @@ module _ {map_of : Map} {pool : Pool} {functions : List PlacedLines} {depth buff
         done : Done pool.cells code 3 (1 ∷ []) (with_number word 4 newest s.memory) (s.pc + 4 + 4 + 4) s after
         has : value after.registers 1 ≡ word
 
+      -- those up to the second one
+      record Named (own : Bool) : Type 0 where
+        after : Processor
+        done : Done pool.cells code (3 + words_to_name own) (1 ∷ 9 ∷ []) (linked word newest slot_here s.memory)
+            (s.pc + 4 + 4 + 4 + 4 * words_to_name own) s after
+        has : value after.registers 1 ≡ word
+
       -- all of them
       record Stored : Type 0 where
         after : Processor
-        done : Done pool.cells code 6 (1 ∷ 9 ∷ []) (linked word newest slot_here s.memory) (s.pc + 4 * 6) s after
+        done : Done pool.cells code (words_to_hold at_pointer) (1 ∷ 9 ∷ []) (linked word newest slot_here s.memory)
+            (s.pc + 4 * words_to_hold at_pointer) s after
         is_newest : value after.registers 9 ≡ word
 
       stores_first : Linked
@@ -319,16 +338,17 @@ module _ {map_of : Map} {pool : Pool} {functions : List PlacedLines} {depth buff
           let some = token_memory.usable.some in
           let test : nat_eq word 0 ≡ false = let differ : word ≢ 0 = λ e. absurd (omega arith) in grind (arith, nat_tests) in
           let look = looks k offset offset_is holds.2 in
-          let passed = some_passes k offset offset_is holds.2 6 holds.0 holds.3 hold_over hold_last word word_is test in
+          let passed = some_passes k offset offset_is holds.2 (words_to_hold at_pointer) holds.0 holds.3 hold_over hold_last word
+          word_is test in
           let two = done_on look.done passed.done in
           let has : value passed.after.registers 1 ≡ word =
           passed.done.kept 1 tt ∙ looked k offset offset_is holds.2 word word_is in
           let address : sum_word (value passed.after.registers 1) holds.4.0.word ≡ word =
-          rw (has, holds.4.2) (omega (arith, inside.0, inside.1)) in
+          rw (has, holds.4.1) (omega (arith, inside.0, inside.1)) in
           let stores = token_memory.usable.stores word from (omega (arith, inside.0)) in
           let misses = token_misses token_memory word word fields_here is_token (omega arith) (omega arith) in
           let stored = store_goes pool.cells ground.below two.stands {at = s.pc + 4 + 4} two.pc_is {base = ra} {from = s1}
-          {offset = holds.4.0} {address = word} {word = newest} holds.4.4.0 address (two.kept 9 ((λ e. cc), tt)) (omega arith)
+          {offset = holds.4.0} {address = word} {word = newest} holds.4.2 address (two.kept 9 ((λ e. cc), tt)) (omega arith)
           (rw two.parts_are stores) (misses_done word two (out_8.0, tt) (out_18.0, tt) (out_19.0, tt) misses) in
           record {
             after = stored.after;
@@ -343,38 +363,69 @@ module _ {map_of : Map} {pool : Pool} {functions : List PlacedLines} {depth buff
           own_header token_memory (roots_done stores_first.done refl) word word newest fields_here is_token cells_apart
           (omega arith) (omega arith) stores_first.done.memory_is
 
-      stores_both : Stored
-      stores_both =
+      -- the second one: of the stack pointer, where the slot is there, else of s1
+      names_slot : (own : Bool) → (own ≡ true → value s.registers 2 ≡ slot_here) → NamesSlot own code (s.pc + 4 + 4 + 4) offset
+          → Named own
+      names_slot true is_pointer (second, second_is, here) =
+          let inside = own-inside running.cells word words is in
+          let cell = own-cell running.cells word words is in
+          let from = cell.behind in
+          let whole = cell.aligned in
+          let three = stores_first.done in
+          let names : value stores_first.after.registers 2 ≡ slot_here = three.kept 2 ((λ e. cc), tt) ∙ is_pointer refl in
+          let address : sum_word (value stores_first.after.registers 1) second.word ≡ word + 4 =
+          rw (stores_first.has, second_is) (omega (arith, inside.0, inside.1)) in
+          let stores = between.usable.stores (word + 4) (omega arith) (omega (arith, inside.0)) in
+          let misses = token_misses between word (word + 4) fields_here is_token (omega arith) (omega arith) in
+          let stored = store_goes pool.cells ground.below three.stands {at = s.pc + 4 + 4 + 4} three.pc_is {base = ra} {from = sp}
+          {offset = second} {address = word + 4} {word = slot_here} here address names (omega arith) stores misses in
+          record {
+            after = stored.after;
+            done = done_as {changed' = 1 ∷ 9 ∷ []} {m' = linked word newest slot_here s.memory} (done_then three stored.done)
+                (ap (λ m. with_number (word + 4) 4 slot_here m) three.memory_is) refl (λ x out. (out.0, tt));
+            has = stored.done.kept 1 tt ∙ stores_first.has;
+          }
+      names_slot false is_pointer (second, second_is, here) =
           let inside = own-inside running.cells word words is in
           let cell = own-cell running.cells word words is in
           let from = cell.behind in
           let whole = cell.aligned in
           let three = stores_first.done in
           let sets = plain_gets pool.cells ground.below three.stands {at = s.pc + 4 + 4 + 4} three.pc_is (addi_row s1 sp offset)
-          holds.4.4.1.0 in
+          here.0 in
           let four = done_on three sets.done in
           let has : value sets.after.registers 1 ≡ word = sets.done.kept 1 ((λ e. cc), tt) ∙ stores_first.has in
           let names : value sets.after.registers 9 ≡ slot_here =
           sets.value_is some_held ∙ ap (λ w. sum_word w offset.word) (three.kept 2 ((λ e. cc), tt))
           ∙ slot_at k offset offset_is holds.2 in
-          let address : sum_word (value sets.after.registers 1) holds.4.1.word ≡ word + 4 =
-          rw (has, holds.4.3) (omega (arith, inside.0, inside.1)) in
+          let address : sum_word (value sets.after.registers 1) second.word ≡ word + 4 =
+          rw (has, second_is) (omega (arith, inside.0, inside.1)) in
           let stores = between.usable.stores (word + 4) (omega arith) (omega (arith, inside.0)) in
           let misses = token_misses between word (word + 4) fields_here is_token (omega arith) (omega arith) in
           let stored = store_goes pool.cells ground.below four.stands {at = s.pc + 4 + 4 + 4 + 4} four.pc_is {base = ra} {from = s1}
-          {offset = holds.4.1} {address = word + 4} {word = slot_here} holds.4.4.1.1.0 address names (omega arith)
+          {offset = second} {address = word + 4} {word = slot_here} here.1.0 address names (omega arith)
           (rw sets.done.parts_are stores)
           (misses_done (word + 4) sets.done (out_8.1.0, tt) (out_18.1.0, tt) (out_19.1.0, tt) misses) in
-          let five = done_as {changed' = 1 ∷ 9 ∷ []} {m' = linked word newest slot_here s.memory} (done_then four stored.done)
-          (ap (λ m. with_number (word + 4) 4 slot_here m) four.memory_is) refl (λ x out. out) in
-          let puts = plain_gets pool.cells ground.below five.stands {at = s.pc + 4 + 4 + 4 + 4 + 4} five.pc_is
-          (addi_row s1 ra holds.4.0) holds.4.4.1.1.1.0 in
-          let same : sum_word (value stored.after.registers 1) holds.4.0.word ≡ word =
-          rw (stored.done.kept 1 tt, has, holds.4.2) (omega (arith, inside.0, inside.1)) in
+          record {
+            after = stored.after;
+            done = done_as {changed' = 1 ∷ 9 ∷ []} {m' = linked word newest slot_here s.memory}
+                {next' = s.pc + 4 + 4 + 4 + 4 * words_to_name false} (done_then four stored.done)
+                (ap (λ m. with_number (word + 4) 4 slot_here m) four.memory_is) (omega arith) (λ x out. out);
+            has = stored.done.kept 1 tt ∙ has;
+          }
+
+      stores_both : Stored
+      stores_both =
+          let inside = own-inside running.cells word words is in
+          let named = names_slot at_pointer pointer_is holds.4.3 in
+          let puts = plain_gets pool.cells ground.below named.done.stands {at = s.pc + 4 + 4 + 4 + 4 * words_to_name at_pointer}
+          named.done.pc_is (addi_row s1 ra holds.4.0) holds.4.4 in
+          let same : sum_word (value named.after.registers 1) holds.4.0.word ≡ word =
+          rw (named.has, holds.4.1) (omega (arith, inside.0, inside.1)) in
           record {
             after = puts.after;
-            done = done_as {changed' = 1 ∷ 9 ∷ []} {next' = s.pc + 4 * 6} (done_on five puts.done) refl (omega arith)
-                (λ x out. (out.0, (out.1.0, (out.1.0, tt))));
+            done = done_as {changed' = 1 ∷ 9 ∷ []} {next' = s.pc + 4 * words_to_hold at_pointer} (done_on named.done puts.done) refl
+                (omega arith) (λ x out. (out.0, (out.1.0, (out.1.0, tt))));
             is_newest = puts.value_is some_held ∙ same;
           }
 
@@ -400,25 +451,26 @@ module _ {map_of : Map} {pool : Pool} {functions : List PlacedLines} {depth buff
           let link : Link = record { cell = word; slot = slot_here } in
           let links_are : links_of map_of base (record behind { held = k ∷ f.held } ∷ fs) ≡ link ∷ links_here =
           ap (λ o. record { cell = word_of o; slot = slot_here } ∷ links_here) word_is in
-          let here : StackAt map_of code (most_lines functions) stop (stack_end map_of depth) s.registers s.memory (s.pc + 4 * 6) base
+          let here : StackAt map_of code (most_lines functions) stop (stack_end map_of depth) s.registers s.memory
+          (s.pc + 4 * words_to_hold at_pointer) base
           (record behind { held = k ∷ f.held } ∷ fs)
-          = (is_in_again (is_behind (s.pc + 4 * 6) refl hold_last) f.cells (k ∷ f.held), stand.1, stand.2, stand.3) in
+          = (is_in_again (is_behind (s.pc + 4 * words_to_hold at_pointer) refl hold_last) f.cells (k ∷ f.held), stand.1, stand.2, stand.3) in
           comes_go map_of pool functions depth stop code parts 6 old
           (record {
             frames = record behind { held = k ∷ f.held } ∷ fs;
             registers = known;
             shared = with_cells world (with_block word (kept words) world.cells);
-          }) s t 6 (walks_done done)
+          }) s t (words_to_hold at_pointer) (walks_done done)
           (runs_on map_of pool functions depth stop code parts (record { frames = f ∷ fs; registers = known; shared = world })
           (with_block word (kept words) world.cells) s t (record behind { held = k ∷ f.held } ∷ fs) known base running done out_one
           (links_clear inside.0 from usable) running.room (done.kept 2 out_2 ∙ running.base_is)
           (stack_kept map_of code (most_lines functions) stop (stack_end map_of depth) ground.some_frame s.registers t.registers s.memory
-          (linked word newest slot_here s.memory) (s.pc + 4 * 6) base (record behind { held = k ∷ f.held }) fs (spare_link t)
+          (linked word newest slot_here s.memory) (s.pc + 4 * words_to_hold at_pointer) base (record behind { held = k ∷ f.held }) fs (spare_link t)
           (λ x above high. word-apart (word + 4) slot_here (with_number word 4 newest s.memory) x (inr (omega (arith, inside.0)))
           ∙ word-apart word newest s.memory x (inr (omega (arith, inside.0)))) here)
           (agrees_done s t known done (refl, (refl, tt)) running.registers)
           (subst (λ links. HoldsCells pool (with_block word (kept words) world.cells) links t) (sym links_are)
-          (held_holds running.cells word slot_here words is memory keeps))) (omega arith) (omega arith)
+          (held_holds running.cells word slot_here words is memory keeps))) (omega arith) (omega (arith, name_most at_pointer))
         where
           -- no byte of a constant is one of the cell
           links_clear : word + 32 ≤ end_of pool → pool.first ≤ word → IsUsable pool s.parts
@@ -445,7 +497,7 @@ module _ {map_of : Map} {pool : Pool} {functions : List PlacedLines} {depth buff
 
     unhold_null : f.cells k ≡ Some 0 → Comes map_of pool functions depth stop code parts 3 old (placed_goes behind fs known world) s
     unhold_null none =
-        null_comes k offset offset_is takes.4.0 3 takes.0 takes.4.1.0 unhold_over unhold_last (omega arith) is_behind none
+        null_comes k offset offset_is takes.4.0 3 takes.0 takes.4.1.0 unhold_over unhold_last 3 (omega arith) is_behind none
 
     unhold_token : (word : ℕ) → f.cells k ≡ Some word → (held : List ℕ) → f.held ≡ k ∷ held → (words : ℕ → Option ℕ)
         → world.cells.blocks word ≡ kept words
@@ -580,29 +632,44 @@ module _ {map_of : Map} {pool : Pool} {functions : List PlacedLines} {depth buff
               ∙ ap (λ (w : World). placed_goes (record behind { held = line.held }) fs known w) done.2 ∙ line.turn_is,
         )
 
-    pub follow_hold : GoesBehind 6 → OnToken HoldsToken map_of code s.pc args
+    -- whether the stack pointer is the address of the slot
+    abbrev at_pointer : Bool
+    at_pointer = is_at_pointer running.frames.0.forms.jumps args
+
+    pub follow_hold : running.frames.0.forms.jumps ≡ map_of.jumps
+        → GoesBehind (words_to_hold at_pointer)
+        → OnToken (HoldsToken at_pointer) map_of code s.pc args
         → placed_acts (primitives map_of.constants pool) depth functions behind fs known world Hold args into words ≡ turn
         → Comes map_of pool functions depth stop code parts 6 old turn s
-    follow_hold is_behind here is =
+    follow_hold jumps_are is_behind here is =
         let line = token_line holding (on_block held_as) is in
         let kept_free = holding_by line.k line.word f.held line.held line.held_is in
         let row = here line.k line.slot_is in
         by line row.0 row.1 row.2 kept_free.0 kept_free.1
       where
+        -- then it is
+        pointer : (line : TokenLine holding (on_block held_as)) → at_pointer ≡ true → value s.registers 2 ≡ base + slot_offset line.k
+        pointer line is_so =
+            let test : (line.k == pointer_slot running.frames.0.forms.jumps) ≡ true =
+            sym (ap (is_pointer_slot running.frames.0.forms.jumps) line.slot_is) ∙ is_so in
+            framed_base ground f fs known world s running framed
+            ∙ ap (λ (jumps : Reach). base + frame_bias jumps) (sym jumps_are)
+            ∙ ap (λ n. base + n) (sym (slot_at_pointer running.frames.0.forms.jumps line.k test))
+
         by : (line : TokenLine holding (on_block held_as)) (offset : Immediate) → IsOffsetOf map_of line.k offset
-            → HoldsToken code s.pc offset
+            → HoldsToken at_pointer code s.pc offset
             → is_among line.k f.held ≡ false
             → ((line.word ≡ 0) × (line.held ≡ f.held)) ⊎ ((line.word ≢ 0) × (line.held ≡ line.k ∷ f.held))
             → Comes map_of pool functions depth stop code parts 6 old turn s
         by line offset offset_is holds free (inl null) = subst (λ t. Comes map_of pool functions depth stop code parts 6 old t s)
-            (null_turn line null.0 null.1) (hold_null line.k offset offset_is holds is_behind (null_word line null.0))
+            (null_turn line null.0 null.1) (hold_null line.k offset offset_is at_pointer (pointer line) holds is_behind (null_word line null.0))
         by line offset offset_is holds free (inr some) =
             let done = some_turn held_as line some.0 in
             let found = held_own (world.cells.blocks line.word) done.0 done.1 in
             subst (λ t. Comes map_of pool functions depth stop code parts 6 old t s)
             (ap (λ b. placed_goes (record behind { held = line.k ∷ f.held }) fs known (with_cells world (with_block line.word b world.cells))) (sym found.2)
             ∙ ap (λ h. placed_goes (record behind { held = h }) fs known (with_cells world (with_block line.word done.0 world.cells))) (sym some.1) ∙ done.2)
-            (hold_token line.k offset offset_is holds is_behind line.word line.word_is free found.0 found.1)
+            (hold_token line.k offset offset_is at_pointer (pointer line) holds is_behind line.word line.word_is free found.0 found.1)
 
     pub follow_unhold : GoesBehind 3 → OnToken UnholdsToken map_of code s.pc args
         → placed_acts (primitives map_of.constants pool) depth functions behind fs known world Unhold args into words ≡ turn

@@ -1,6 +1,6 @@
 -- Where the parts of placed code stand: how many instructions each line is, and the addresses of functions, of labels and of
 -- the runtime's routines.
-use Rattle.std.specs.Prelude.{◌==◌, ◌≡◌, ◌≢◌, ◌⊎◌, ℕ, ◌+◌, ◌-◌, ◌*◌, List, [], ◌∷◌, Option, Some, None, Bool, true, false}
+use Rattle.std.specs.Prelude.{◌==◌, ◌≡◌, ◌≢◌, ◌⊎◌, ℕ, ◌+◌, ◌-◌, ◌*◌, ◌/◌, List, [], ◌∷◌, Option, Some, None, Bool, true, false}
 use Rattle.std.specs.Prelude.{◌&&◌, ◌||◌, cond, nat_lt, map}
 use Rattle.std.specs.List.{list_any}
 use Rattle.rv_isa.specs.declared.asm.Action.{Action}
@@ -15,11 +15,11 @@ use Rattle.rv_isa.specs.declared.placed.Place.TheVariants.{Register as register,
 use Rattle.rv_isa.specs.declared.placed.Operand.{Operand}
 use Rattle.rv_isa.specs.declared.placed.Symbol.{Symbol}
 use Rattle.rv_isa.specs.PlacedCode.{PlacedLine, does, moves, PlacedLines}
-use Rattle.rv_isa.specs.PlacedMachine.{is_label_line}
+use Rattle.rv_isa.specs.PlacedMachine.{is_label_line, only_slot}
 use Rattle.rv_isa.specs.Conventions.{is_idle}
 use Rattle.rv_isa.specs.LinePlaces.{is_copy}
 use Rattle.rv_isa.specs.Sizes.{reach_down, narrow_frame, wide_frame}
-use Rattle.rv_place.specs.Instructions.{words_of_operation, words_of_jump, words_of_branch}
+use Rattle.rv_place.specs.Instructions.{words_of_operation, words_of_jump, words_of_branch, words_to_hold}
 use Rattle.rv_place.specs.declared.reach.Forms.{Forms}
 use Rattle.rv_place.specs.declared.reach.Reach.{Reach}
 use Rattle.rv_place.specs.declared.reach.Reach.TheVariants.{Near, Far, Wide}
@@ -72,18 +72,36 @@ words_of_shift Wide = 2
 abbrev pub words_of_return : Forms → ℕ
 words_of_return forms = cond forms.frame (2 + words_of_shift forms.jumps) 1
 
+-- how far above a frame's first word the stack pointer stands: a load reaches as far down as up
+abbrev pub frame_bias : Reach → ℕ
+frame_bias Near = 0
+frame_bias Far = 0
+frame_bias Wide = reach_down
+
+-- the slot whose address is the stack pointer
+abbrev pub pointer_slot : Reach → ℕ
+pointer_slot jumps = frame_bias jumps / 4
+
+abbrev pub is_pointer_slot : Reach → Option ℕ → Bool
+is_pointer_slot jumps None = false
+is_pointer_slot jumps (Some k) = k == pointer_slot jumps
+
+-- whether the token that an action holds is in that slot
+abbrev pub is_at_pointer : Reach → List Operand → Bool
+is_at_pointer jumps args = is_pointer_slot jumps (only_slot args)
+
 -- how many instructions an action is, by the forms of jumps and branches
-abbrev pub words_of_action : Forms → Action → ℕ
-words_of_action forms (Compute operation) = words_of_operation operation
-words_of_action forms (Label l) = 0
-words_of_action forms (Jump l) = words_of_jump forms.jumps
-words_of_action forms (Branch condition l) = words_of_branch forms.jumps forms.branches
-words_of_action forms (Call f) = words_of_jump forms.jumps
-words_of_action forms (TailCall f) = words_of_jump forms.jumps
-words_of_action forms Return = words_of_return forms
-words_of_action forms (Routine routine) = words_of_jump forms.jumps
-words_of_action forms Hold = 6
-words_of_action forms Unhold = 3
+abbrev pub words_of_action : Forms → Action → List Operand → ℕ
+words_of_action forms (Compute operation) args = words_of_operation operation
+words_of_action forms (Label l) args = 0
+words_of_action forms (Jump l) args = words_of_jump forms.jumps
+words_of_action forms (Branch condition l) args = words_of_branch forms.jumps forms.branches
+words_of_action forms (Call f) args = words_of_jump forms.jumps
+words_of_action forms (TailCall f) args = words_of_jump forms.jumps
+words_of_action forms Return args = words_of_return forms
+words_of_action forms (Routine routine) args = words_of_jump forms.jumps
+words_of_action forms Hold args = words_to_hold (is_at_pointer forms.jumps args)
+words_of_action forms Unhold args = 3
 
 -- whether two places are one register
 abbrev pub is_same_register : Place → Place → Bool
@@ -108,7 +126,7 @@ abbrev pub is_silent : Action → List Operand → Option Operand → Bool
 is_silent action args into = (is_copy action && stands_there args into) || gives_idly action into
 
 abbrev pub words_of_line : Forms → PlacedLine → ℕ
-words_of_line forms (does alive action args into) = cond (is_silent action args into) 0 (words_of_action forms action)
+words_of_line forms (does alive action args into) = cond (is_silent action args into) 0 (words_of_action forms action args)
 words_of_line forms (moves alive value way) = 1
 
 abbrev pub words_of_lines : Forms → List PlacedLine → ℕ
@@ -189,12 +207,6 @@ abbrev pub greatest_frame : Reach → ℕ
 greatest_frame Near = narrow_frame
 greatest_frame Far = narrow_frame
 greatest_frame Wide = wide_frame
-
--- how far above a frame's first word the stack pointer stands: a load reaches as far down as up
-abbrev pub frame_bias : Reach → ℕ
-frame_bias Near = 0
-frame_bias Far = 0
-frame_bias Wide = reach_down
 
 -- where a slot stands above the first word of its frame
 abbrev pub slot_offset : ℕ → ℕ

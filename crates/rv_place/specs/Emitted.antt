@@ -156,7 +156,7 @@ TokenBy Stands jumps args code at =
 abbrev pub ActionBy : Chart → Labels → ℕ → Action → List Operand → Option Operand → Code → ℕ → Type 0
 ActionBy chart labels from action args into code at =
     at ≡ from → (map : Map) → Charts chart map → (start : ℕ) (whole : List PlacedLine) → HasLabels labels start whole
-    → IsInFunction map labels.forms start whole at (words_of_action labels.forms action)
+    → IsInFunction map labels.forms start whole at (words_of_action labels.forms action args)
     → ActsAt map labels.forms code start whole at action args into
 
 abbrev pub OperationBy : Chart → Operation → List Operand → Option Operand → Code → ℕ → Type 0

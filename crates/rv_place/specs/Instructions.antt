@@ -1,5 +1,5 @@
 -- The instructions of the assembler's operations, jumps and calls, as they stand in code at an address.
-use Rattle.std.specs.Prelude.{◌≡◌, ℕ, ◌+◌, ◌*◌, ◌%◌, List, [], ◌∷◌, Some, cond, nat_lt, nat_eq}
+use Rattle.std.specs.Prelude.{◌≡◌, ℕ, ◌+◌, ◌*◌, ◌%◌, List, [], ◌∷◌, Some, Bool, true, false, cond, nat_lt, nat_eq}
 use Rattle.rv_isa.specs.declared.register.Register.{Register}
 use Rattle.rv_place.specs.Registers.{zero_register, ra, sp, s0, s1}
 use Rattle.rv_isa.specs.declared.immediate.Immediate.{Immediate}
@@ -162,18 +162,34 @@ FreesToken code at a =
     (over : BranchOffset) × (zero : Immediate) × (over.word ≡ 12) × Zero zero
     × Has code at (Instr.Beq a zero_register over ∷ Instr.Sw a s0 zero ∷ Instr.Addi s0 a zero ∷ [])
 
+-- The second word of the token in ra is the address of its slot. Where that is the stack pointer, it is stored as it is; else s1
+-- is set to it first.
+abbrev pub NamesSlot : Bool → Code → ℕ → Immediate → Type 0
+NamesSlot true code at slot = (second : Immediate) × (second.word ≡ 4) × (code at ≡ Some (Instr.Sw ra sp second))
+NamesSlot false code at slot =
+    (second : Immediate) × (second.word ≡ 4) × Has code at (Instr.Addi s1 sp slot ∷ Instr.Sw ra s1 second ∷ [])
+
+-- how many instructions that is
+abbrev pub words_to_name : Bool → ℕ
+words_to_name true = 1
+words_to_name false = 2
+
 -- The token in ra becomes the newest held one: its first word is the one that was held before it, its second the address of its
 -- slot, and s1 is its own address.
-abbrev pub LinksToken : Code → ℕ → Immediate → Type 0
-LinksToken code at slot =
-    (zero : Immediate) × (second : Immediate) × Zero zero × (second.word ≡ 4)
-    × Has code at (Instr.Sw ra s1 zero ∷ Instr.Addi s1 sp slot ∷ Instr.Sw ra s1 second ∷ Instr.Addi s1 ra zero ∷ [])
+abbrev pub LinksToken : Bool → Code → ℕ → Immediate → Type 0
+LinksToken at_pointer code at slot =
+    (zero : Immediate) × Zero zero × (code at ≡ Some (Instr.Sw ra s1 zero)) × NamesSlot at_pointer code (at + 4) slot
+    × (code (at + 4 + 4 * words_to_name at_pointer) ≡ Some (Instr.Addi s1 ra zero))
 
 -- The token in a slot is held: it is loaded to ra. A branch leads over the rest where the slot has none.
-abbrev pub HoldsToken : Code → ℕ → Immediate → Type 0
-HoldsToken code at slot =
-    (over : BranchOffset) × (over.word ≡ 20) × (code at ≡ Some (Instr.Lw ra sp slot))
-    × (code (at + 4) ≡ Some (Instr.Beq ra zero_register over)) × LinksToken code (at + 4 + 4) slot
+abbrev pub HoldsToken : Bool → Code → ℕ → Immediate → Type 0
+HoldsToken at_pointer code at slot =
+    (over : BranchOffset) × (over.word ≡ 12 + 4 * words_to_name at_pointer) × (code at ≡ Some (Instr.Lw ra sp slot))
+    × (code (at + 4) ≡ Some (Instr.Beq ra zero_register over)) × LinksToken at_pointer code (at + 4 + 4) slot
+
+-- how many instructions that is
+abbrev pub words_to_hold : Bool → ℕ
+words_to_hold at_pointer = 3 + words_to_name at_pointer + 1
 
 -- The newest held token is taken back from its slot: it is loaded to ra, and its first word, the address of the one that was
 -- held before it, goes to

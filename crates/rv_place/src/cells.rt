@@ -1,17 +1,18 @@
 // Counts and tokens as instructions.
 
-ghost use Rattle.std.specs.Prelude.{◌≡◌, ℕ, ◌+◌, ◌*◌, ◌≤◌, Some, OnOk};
+ghost use Rattle.std.specs.Prelude.{◌≡◌, ℕ, ◌+◌, ◌*◌, ◌≤◌, true, false, Some, OnOk};
 ghost use Rattle.rv_isa.specs.PlacedMachine.{only_slot};
 ghost use Rattle.rv_isa.specs.FrameSizes.{slots_of_operands};
-ghost use Rattle.rv_isa.specs.declared.instr.Instr.TheVariants.{Lw, Beq};
+ghost use Rattle.rv_isa.specs.declared.instr.Instr.TheVariants.{Lw, Sw, Beq};
+ghost use Rattle.rv_isa.specs.declared.immediate.Immediate.{Immediate};
 ghost use Rattle.rv_place.specs.Registers.{zero_register, ra, sp};
-ghost use Rattle.rv_place.specs.Addresses.{greatest_frame, slot_offset};
-ghost use Rattle.rv_place.specs.Instructions.{RaisesCount, FreesToken, LinksToken, HoldsToken, UnholdsToken};
+ghost use Rattle.rv_place.specs.Addresses.{greatest_frame, is_at_pointer, slot_offset};
+ghost use Rattle.rv_place.specs.Instructions.{RaisesCount, FreesToken, NamesSlot, words_to_name, LinksToken, HoldsToken, words_to_hold, UnholdsToken};
 ghost use Rattle.rv_place.specs.Lines.{IsFromPointer};
 ghost use Rattle.rv_place.specs.Emitted.{Grew, TokenBy};
 
 use crate::emit::{emit, slot_offset};
-use crate::reach::Reach;
+use crate::reach::{Reach, words_to_name};
 use kk_base::NoMemory;
 use rv_isa::{BranchOffset, Immediate, Instr, Operand, Place, Register};
 
@@ -112,19 +113,26 @@ fn token_offset(jumps: Reach, args: &[Operand]) -> Immediate
     }
 }
 
-/// Makes the token in `ra`, which its slot has, the newest held one.
-fn emit_link(code: &mut Vec<Instr>, slot: Immediate) -> Result<(), NoMemory>
-    ensures { OnOk result (Grew 4 (λ c at. LinksToken c at slot) code.old.items code.new.items) }
+/// Stores a register in the second word of the token in `ra`.
+fn emit_second(code: &mut Vec<Instr>, from: Register) -> Result<(), NoMemory>
+    ensures { OnOk result (Grew 1 (λ c at. (second : Immediate) × (second.word ≡ 4) × (c at ≡ Some (Sw ra from second)))
+        code.old.items code.new.items) }
 {
     let second = Immediate::new(4);
     emit(
         code,
         Instr::Sw {
             rs1: Register::RA,
-            rs2: Register::S1,
-            imm: Immediate::ZERO,
+            rs2: from,
+            imm: second,
         },
-    )?;
+    )
+}
+
+/// Stores the address of a slot, which is not the stack pointer, in the second word of the token in `ra`.
+fn emit_address(code: &mut Vec<Instr>, slot: Immediate) -> Result<(), NoMemory>
+    ensures { OnOk result (Grew 2 (λ c at. NamesSlot false c at slot) code.old.items code.new.items) }
+{
     emit(
         code,
         Instr::Addi {
@@ -133,14 +141,34 @@ fn emit_link(code: &mut Vec<Instr>, slot: Immediate) -> Result<(), NoMemory>
             imm: slot,
         },
     )?;
+    emit_second(code, Register::S1)?;
+    Ok(())
+}
+
+/// Stores the address of a slot in the second word of the token in `ra`.
+fn emit_name(code: &mut Vec<Instr>, slot: Immediate, at_pointer: bool) -> Result<(), NoMemory>
+    ensures { OnOk result (Grew (words_to_name at_pointer) (λ c at. NamesSlot at_pointer c at slot) code.old.items code.new.items) }
+{
+    if at_pointer {
+        emit_second(code, Register::SP)
+    } else {
+        emit_address(code, slot)
+    }
+}
+
+/// Makes the token in `ra`, which its slot has, the newest held one.
+fn emit_link(code: &mut Vec<Instr>, slot: Immediate, at_pointer: bool) -> Result<(), NoMemory>
+    ensures { OnOk result (Grew (2 + words_to_name at_pointer) (λ c at. LinksToken at_pointer c at slot) code.old.items code.new.items) }
+{
     emit(
         code,
         Instr::Sw {
             rs1: Register::RA,
             rs2: Register::S1,
-            imm: second,
+            imm: Immediate::ZERO,
         },
     )?;
+    emit_name(code, slot, at_pointer)?;
     emit(
         code,
         Instr::Addi {
@@ -176,15 +204,24 @@ fn emit_token(code: &mut Vec<Instr>, slot: Immediate, over: BranchOffset) -> Res
     Ok(())
 }
 
+/// Over a link: the distance of a branch that stands right before one.
+fn over_link(at_pointer: bool) -> BranchOffset
+    ensures { result.word ≡ 12 + 4 * words_to_name at_pointer }
+{
+    BranchOffset::new(12 + 4 * words_to_name(at_pointer))
+}
+
 /// Holds the token of a slot, which is the newest one then; where the slot has none, does nothing.
 pub fn emit_hold(code: &mut Vec<Instr>, jumps: Reach, args: &[Operand]) -> Result<(), NoMemory>
     requires slots { 4 * slots_of_operands args.now + 4 ≤ greatest_frame jumps }
-    ensures { OnOk result (Grew 6 (TokenBy HoldsToken jumps args.now) code.old.items code.new.items) }
+    ensures { OnOk result (Grew (words_to_hold (is_at_pointer jumps args.now)) (TokenBy (HoldsToken (is_at_pointer jumps args.now)) jumps args.now)
+        code.old.items code.new.items) }
 {
     let slot = token_offset(jumps, args);
-    let over = BranchOffset::new(20);
+    let at_pointer = jumps.is_at_pointer(args);
+    let over = over_link(at_pointer);
     emit_token(code, slot, over)?;
-    emit_link(code, slot)?;
+    emit_link(code, slot, at_pointer)?;
     Ok(())
 }
 

@@ -35,7 +35,7 @@ fn emit_action(
     requires same { labels.now.forms.jumps ≡ chart.now.jumps }
     requires frame { chart.now.frame ≤ greatest_frame chart.now.jumps }
     requires slots { 4 * slots_of_operands args.now + 4 ≤ chart.now.frame }
-    ensures { OnOk result (Grew (words_of_action labels.now.forms action) (ActionBy chart.now labels.now at action args.now into) code.old.items code.new.items) }
+    ensures { OnOk result (Grew (words_of_action labels.now.forms action args.now) (ActionBy chart.now labels.now at action args.now into) code.old.items code.new.items) }
 {
     let jumps = labels.forms.jumps;
     match action {

@@ -1,11 +1,12 @@
 // How far jumps and branches lead, and how large frames are.
 
 ghost use Rattle.std.specs.Prelude.{◌≡◌, ◌≤◌};
-ghost use Rattle.rv_place.specs.Instructions.{words_of_jump, words_of_branch, form_of, words_of_form};
-ghost use Rattle.rv_place.specs.Addresses.{entry_words, test_words, frame_bias, reach_of, words_of_return, words_of_shift};
+ghost use Rattle.rv_place.specs.Instructions.{words_of_jump, words_of_branch, form_of, words_of_form, words_to_name, words_to_hold};
+ghost use Rattle.rv_place.specs.Addresses.{entry_words, test_words, frame_bias, pointer_slot, is_at_pointer, reach_of, words_of_return, words_of_shift};
 ghost use Rattle.rv_place.specs.Addresses.{words_to_frame};
 
 use rv_isa::sizes::REACH_DOWN;
+use rv_isa::{Operand, Place};
 
 /// How far a jump or a branch leads; of the jumps of a text also whether its frames are wide.
 #[derive(Clone, Copy, PartialEq, Eq, Debug)]
@@ -72,6 +73,36 @@ impl Reach {
         }
     }
 
+    /// The slot whose address is the stack pointer.
+    fn pointer_slot(self) -> u32
+        ensures { result ≡ pointer_slot self }
+    {
+        self.frame_bias() / 4
+    }
+
+    /// Whether the token that an action holds is in that slot.
+    pub fn is_at_pointer(self, args: &[Operand]) -> bool
+        ensures { result ≡ is_at_pointer self args.now }
+    {
+        match args {
+            [
+                Operand {
+                    place: Place::Slot(slot),
+                    ..
+                },
+            ] => *slot == self.pointer_slot(),
+            _ => false,
+        }
+    }
+
+    /// How many instructions hold a token: where its slot's address is the stack pointer, one less.
+    pub fn words_to_hold(self, args: &[Operand]) -> u32
+        ensures words { result ≡ words_to_hold (is_at_pointer self args.now) }
+        ensures few { result ≤ 6 }
+    {
+        4 + words_to_name(self.is_at_pointer(args))
+    }
+
     /// How many instructions give the address of the newest frame: none where the stack pointer is at its first word.
     pub fn words_to_frame(self) -> u32
         ensures words { result ≡ words_to_frame self }
@@ -98,6 +129,14 @@ impl Reach {
     {
         self.words_to_frame() + 1 + self.words_of_jump()
     }
+}
+
+/// How many instructions store the address of a slot in a token: where it is the stack pointer, one.
+pub fn words_to_name(at_pointer: bool) -> u32
+    ensures words { result ≡ words_to_name at_pointer }
+    ensures few { result ≤ 2 }
+{
+    if at_pointer { 1 } else { 2 }
 }
 
 impl Forms {

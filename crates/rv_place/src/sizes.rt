@@ -32,8 +32,8 @@ fn words_of_operation(operation: Operation) -> u32
 }
 
 /// How many instructions an action is.
-fn words_of_action(forms: Forms, action: Action) -> u32
-    ensures words { result ≡ words_of_action forms action }
+fn words_of_action(forms: Forms, action: Action, args: &[Operand]) -> u32
+    ensures words { result ≡ words_of_action forms action args.now }
     ensures few { result ≤ action_length action }
 {
     let jump = forms.jumps.words_of_jump();
@@ -43,7 +43,7 @@ fn words_of_action(forms: Forms, action: Action) -> u32
         Action::Jump(_) | Action::Call(_) | Action::TailCall(_) | Action::Routine(_) => jump,
         Action::Branch(_, _) => forms.words_of_branch(),
         Action::Return => forms.words_of_return(),
-        Action::Hold => 6,
+        Action::Hold => forms.jumps.words_to_hold(args),
         Action::Unhold => 3,
     }
 }
@@ -94,13 +94,13 @@ pub fn is_silent(action: Action, args: &[Operand], into: Option<Operand>) -> boo
 
 /// How many instructions an action is with its operands: none where it is silent.
 fn words_of_statement(forms: Forms, action: Action, args: &[Operand], into: Option<Operand>) -> u32
-    ensures words { result ≡ cond (is_silent action args.now into) 0 (words_of_action forms action) }
+    ensures words { result ≡ cond (is_silent action args.now into) 0 (words_of_action forms action args.now) }
     ensures few { result ≤ action_length action }
 {
     if is_silent(action, args, into) {
         0
     } else {
-        words_of_action(forms, action)
+        words_of_action(forms, action, args)
     }
 }
 
