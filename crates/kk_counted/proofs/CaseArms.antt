@@ -10,15 +10,15 @@ use Rattle.kk_counted.specs.Emitting.{HaveRows, IsWhole, IsWholeDraft}
 
 -- ---- steps
 
-plugged : (moves : List Move) (rest : Counted) → HaveArmsInside moves → HasArms rest → HasArms (plug moves rest)
-plugged [] rest moves last = last
-plugged (computes x form arguments ∷ moves) rest all last = plugged moves rest all.1 last
-plugged (runs x block ∷ moves) rest all last = (all.0, plugged moves rest all.1 last)
-plugged (reads x c fields ∷ moves) rest all last = plugged moves rest all.1 last
-plugged (opens x c fields used ∷ moves) rest all last = plugged moves rest all.1 last
-plugged (opens_unique x c fields used ∷ moves) rest all last = plugged moves rest all.1 last
-plugged (dups x ∷ moves) rest all last = plugged moves rest all.1 last
-plugged (drops x ∷ moves) rest all last = plugged moves rest all.1 last
+pub whole_body : (moves : List Move) (rest : Counted) → HaveArmsInside moves → HasArms rest → HasArms (plug moves rest)
+whole_body [] rest moves last = last
+whole_body (computes x form arguments ∷ moves) rest all last = whole_body moves rest all.1 last
+whole_body (runs x block ∷ moves) rest all last = (all.0, whole_body moves rest all.1 last)
+whole_body (reads x c fields ∷ moves) rest all last = whole_body moves rest all.1 last
+whole_body (opens x c fields used ∷ moves) rest all last = whole_body moves rest all.1 last
+whole_body (opens_unique x c fields used ∷ moves) rest all last = whole_body moves rest all.1 last
+whole_body (dups x ∷ moves) rest all last = whole_body moves rest all.1 last
+whole_body (drops x ∷ moves) rest all last = whole_body moves rest all.1 last
 
 inside_more : (moves more : List Move) → HaveArmsInside moves → HaveArmsInside more → HaveArmsInside (moves ++ more)
 inside_more [] more one two = two
@@ -51,7 +51,7 @@ arms_are : (codes : List Counted) → AllHaveArms codes → HaveArms (arms_of co
 arms_are [] all = tt
 arms_are (code ∷ codes) all = (all.0, arms_are codes all.1)
 
-copies_length : (n : ℕ) (xs : List ℕ) → length (copies n xs) ≡ n
+pub copies_length : (n : ℕ) (xs : List ℕ) → length (copies n xs) ≡ n
 copies_length zero xs = refl
 copies_length (suc n) xs = ap suc (copies_length n xs)
 
@@ -107,7 +107,7 @@ whole_ended d split splits code tails inside is last whole =
         record {
           decisions = rows.0.decisions;
           rows = omega (arith, rows.0.rows, length-append split.arms (body ∷ []));
-          arms = all_more split.arms body rows.0.arms (plugged d.steps code whole.written last);
+          arms = all_more split.arms body rows.0.arms (whole_body d.steps code whole.written last);
           before = rows.0.before;
         },
         rows.1,
@@ -152,8 +152,3 @@ whole_joined d split splits next x tails outer is left ending whole = by_tails t
           end = no_ending d.ending ending;
         }
     by_tails true = record { branches = rows.1; written = rows.0.before; end = only }
-
--- ---- functions
-
-pub whole_body : (steps : List Move) (last : Counted) → HaveArmsInside steps → HasArms last → HasArms (plug steps last)
-whole_body steps last all one = plugged steps last all one

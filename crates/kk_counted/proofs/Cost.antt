@@ -4,9 +4,10 @@ use Rattle.kk_source.specs.State.{Value, integer, unit, constant, place}
 use Rattle.kk_source.specs.Matching.{and_then}
 use Rattle.kk_counted.specs.Heaps.{Heap, count_at, set_count, more, dup_value, dup_all, fields_held, weight, give_up, drop_value}
 use Rattle.kk_counted.specs.CountedMachine.{opened_heap}
-use Rattle.kk_counted.specs.Spending.{total, AreEven}
+use Rattle.kk_counted.specs.Spending.{AreEven}
 use Rattle.kk_counted.specs.Cost.{turns_taken, drop_turns, saved, turns_if, opening_turns}
 use Rattle.kk_counted.proofs.CountChanges.{kept_weight, freed_weight}
+use Rattle.kk_counted.proofs.ListLengths.{total_ones}
 
 some_is : (heap after : Heap) → Some heap ≡ Some after → heap ≡ after
 some_is heap after same = ap (λ (o : Option Heap). elim o [ None ↦ heap | Some h ↦ h ]) same
@@ -39,13 +40,9 @@ turns_cost (suc turns) (place at ∷ vs) heap after gives = by_count (count_at h
 pub drop_cost : (v : Value) (heap after : Heap) → drop_value v heap ≡ Some after → drop_turns v heap + weight after ≡ 1 + weight heap
 drop_cost v heap after gives = omega (arith, turns_cost (suc (weight heap)) (v ∷ []) heap after gives)
 
-lengths_even : (xs : List ℕ) → total (λ x. 1) xs ≡ length xs
-lengths_even [] = refl
-lengths_even (x ∷ xs) = omega (arith, lengths_even xs)
-
 pub drop_pays : (v : Value) (heap after : Heap) (x : ℕ) (owned kept : List ℕ) → AreEven owned (x ∷ kept) → drop_value v heap ≡ Some after → (16 + 16 * drop_turns v heap) + saved kept after ≡ saved owned heap
 drop_pays v heap after x owned kept even gives =
-    omega (arith, drop_cost v heap after gives, even (λ y. 1), lengths_even owned, lengths_even kept)
+    omega (arith, drop_cost v heap after gives, even (λ y. 1), total_ones owned, total_ones kept)
 
 -- ---- a dup leaves the weight, and an opening pays for its own drop
 

@@ -1,5 +1,5 @@
 -- What calls change of a sound draft leaves it sound.
-use Rattle.std.proofs.Common.{◌≡◌, ◌⊎◌, inl, inr, ℕ, zero, suc, ◌+◌, ◌/◌, ◌%◌, ◌≤◌, ◌<◌, ◌==◌, ◌||◌, Bool, true, false, List, [], ◌∷◌, ◌++◌, map, take, Option, Some, None, arith, refl, sym, ap, ◌∙◌, subst}
+use Rattle.std.proofs.Common.{◌≡◌, ◌⊎◌, ℕ, zero, suc, ◌+◌, ◌/◌, ◌%◌, ◌≤◌, ◌<◌, ◌==◌, ◌||◌, Bool, true, false, List, [], ◌∷◌, ◌++◌, map, take, Option, Some, None, arith, refl, sym, ap, ◌∙◌, subst}
 use Rattle.std.specs.Prelude.{filter, if◌then◌else◌}
 use Rattle.kk_syntax.specs.declared.program.Form.{Form}
 use Rattle.kk_syntax.specs.Shapes.{is_among}
@@ -12,7 +12,6 @@ use Rattle.kk_counted.specs.Drafts.{minus, minus_all, HasAll, chosen_of, copies,
 use Rattle.kk_counted.specs.Emitting.{HaveParameters, AreLow, AreIn, Spent, Leads, first, AllAre, IsFine, AreFine, owned_parameters, first_of, IsSoundBy}
 use Rattle.kk_counted.proofs.CountChanges.{same, itself}
 use Rattle.kk_counted.proofs.Evenness.{total_append, even_behind, even_among, even_back, even_then, even_front, even_last, even_turned, even_grouped, minus_even, minus_all_even, low_even, low_up, low_both, low_behind, low_one, low_next, low_numbers, low_fresh, numbers_fresh, numbers_apart}
-use Rattle.kk_counted.proofs.Variables.{among_cases}
 use Rattle.kk_counted.proofs.OwnershipSteps.{leads_to, leads_then, leads_dup, leads_drop, leads_compute, leads_open, leads_read}
 
 -- ---- the branches, as the next variable grows
@@ -239,13 +238,6 @@ take_among (suc k) (y ∷ xs) x is = by_test (y == x) is (take_among k xs x)
 
 pub in_take : (k : ℕ) (xs others : List ℕ) → AreIn xs others → AreIn (take k xs) others
 in_take k xs others are = λ x is. are x (take_among k xs x is)
-
-pub in_both : (xs ys others : List ℕ) → AreIn xs others → AreIn ys others → AreIn (xs ++ ys) others
-in_both xs ys others one two = λ x is. by_case x (among_cases xs ys x is)
-  where
-    by_case : (x : ℕ) → (is_among xs x ≡ true) ⊎ (is_among ys x ≡ true) → is_among others x ≡ true
-    by_case x (inl left) = one x left
-    by_case x (inr right) = two x right
 
 copies_are : (n : ℕ) (each : List ℕ) → AllAre each (copies n each)
 copies_are zero each = tt

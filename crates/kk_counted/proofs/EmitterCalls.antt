@@ -23,9 +23,9 @@ use Rattle.kk_counted.specs.Drafts.{minus_all, chosen_of, Split, Draft, outside,
 use Rattle.kk_counted.specs.Emitting.{IsJudged, IsBody, AreLow, Spent, owned_parameters, parameter_count, IsWholeDraft, IsSoundBy, IsSoundDraft, Works, AreIn, AreLater, first, first_of}
 use Rattle.kk_counted.specs.Works.{used_at, lends_at, passes, back_to_front, split_of, draft}
 use Rattle.kk_counted.proofs.CountChanges.{same}
-use Rattle.kk_counted.proofs.Evenness.{among_front, among_behind, minus_all_even, low_up, low_both, low_numbers, total_append}
+use Rattle.kk_counted.proofs.Evenness.{among_front, among_behind, minus_all_even, low_up, low_both, low_numbers, total_append, in_both}
 use Rattle.kk_counted.proofs.Variables.{among_cases}
-use Rattle.kk_counted.proofs.DraftSoundness.{sound_dup, sound_drop, sound_opened, sound_read, sound_computed, sound_forked, sound_entered, sound_given, in_both}
+use Rattle.kk_counted.proofs.DraftSoundness.{sound_dup, sound_drop, sound_opened, sound_read, sound_computed, sound_forked, sound_entered, sound_given}
 use Rattle.kk_counted.proofs.CaseArms.{dups_inside, opening_inside, whole_more, whole_forked, whole_entered, whole_ended, whole_end, whole_joined, whole_body}
 use Rattle.kk_counted.proofs.DraftJoins.{sound_by_value, sound_by_call, joins_value, joins_end, judged, finished_spent, call_spent}
 

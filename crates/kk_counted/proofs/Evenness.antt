@@ -4,7 +4,7 @@ use Rattle.std.specs.Prelude.{if◌then◌else◌}
 use Rattle.kk_syntax.specs.Shapes.{is_among}
 use Rattle.kk_counted.specs.Spending.{total, AreEven, AreFresh, AreApart, numbers_from}
 use Rattle.kk_counted.specs.Drafts.{minus, minus_all, HasAll}
-use Rattle.kk_counted.specs.Emitting.{AreLow}
+use Rattle.kk_counted.specs.Emitting.{AreLow, AreIn}
 use Rattle.kk_counted.proofs.CountChanges.{same}
 use Rattle.kk_counted.proofs.Variables.{among_cases}
 
@@ -99,6 +99,14 @@ among_behind (y ∷ xs) ys x is = by_test (y == x) (among_behind xs ys x is)
     by_test : (t : Bool) → is_among (xs ++ ys) x ≡ true → (t || is_among (xs ++ ys) x) ≡ true
     by_test true is = refl
     by_test false is = is
+
+-- variables are among others
+pub in_both : (xs ys others : List ℕ) → AreIn xs others → AreIn ys others → AreIn (xs ++ ys) others
+in_both xs ys others one two = λ x is. by_case x (among_cases xs ys x is)
+  where
+    by_case : (x : ℕ) → (is_among xs x ≡ true) ⊎ (is_among ys x ≡ true) → is_among others x ≡ true
+    by_case x (inl left) = one x left
+    by_case x (inr right) = two x right
 
 -- ---- low variables
 

@@ -154,7 +154,7 @@ fewer_busy (one ∷ before) [] eased = absurd (omega (arith, eased.many))
 fewer_busy (one ∷ before) (other ∷ after) eased =
     omega (arith, eased_head one other before after eased, fewer_busy before after (eased_tail one other before after eased))
 
-one_counted : (n : ℕ) → 1 ≤ n → one_if_counted n ≡ 1
+pub one_counted : (n : ℕ) → 1 ≤ n → one_if_counted n ≡ 1
 one_counted zero less = absurd (omega (arith, less))
 one_counted (suc n) less = refl
 

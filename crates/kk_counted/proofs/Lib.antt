@@ -18,6 +18,9 @@ pub mod NameAssignment
 pub mod NameGrowth
 pub mod PoolRuns
 pub mod TokenExamples
+mod StuckTokens
+mod RequestOrder
+mod Tails
 pub mod Variables
 pub mod Order
 pub mod Reachability

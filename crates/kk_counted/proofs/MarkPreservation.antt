@@ -1,16 +1,17 @@
 -- Runs of marked code keep each value fit for its mark.
-use Rattle.std.proofs.Common.{◌≡◌, ◌⊎◌, inl, inr, ℕ, zero, suc, ◌==◌, ◌&&◌, ◌||◌, Bool, true, false, List, [], ◌∷◌, ◌++◌, length, map, Option, Some, None, arith, refl, sym, ap, ◌∙◌, subst}
+use Rattle.std.proofs.Common.{◌≡◌, ℕ, zero, suc, ◌==◌, ◌&&◌, ◌||◌, Bool, true, false, List, [], ◌∷◌, ◌++◌, length, map, Option, Some, None, arith, refl, sym, ap, ◌∙◌, subst}
 use Rattle.std.proofs.lemmas.Option.{get_or_from_slice_get}
 use Rattle.std.specs.Prelude.{slice_get, nat_le, if◌then◌else◌}
 use Rattle.std.specs.Fmt.{signed_decimal}
 use Rattle.kk_base.specs.Machines.{step_unless, state}
 use Rattle.kk_core.specs.CoreMachine.{bind_fields}
 use Rattle.kk_core.specs.Sizes.{AreBound}
-use Rattle.kk_counted.proofs.CountChanges.{same, itself}
+use Rattle.kk_counted.proofs.CountChanges.{same}
 use Rattle.kk_counted.proofs.CountIndependence.{OnHeap, dup_keeps, drop_keeps, opened_keeps, unique_keeps}
-use Rattle.kk_counted.proofs.Variables.{among_cases}
+use Rattle.kk_counted.proofs.Evenness.{in_both}
+use Rattle.kk_counted.proofs.Variables.{among_first, among_later}
 use Rattle.kk_counted.proofs.SoundRuns.{performed_kept}
-use Rattle.kk_counted.proofs.SoundSteps.{LeadsTo, OnNamed}
+use Rattle.kk_counted.proofs.SoundSteps.{LeadsTo, OnNamed, OnCode}
 use Rattle.kk_counted.specs.CountedCodes.{Counted, give, tail_call, case, compute, inside, read, open_cell, if_unique, dup, drop, CountedArms, no_arm, arm, CountedFunction}
 use Rattle.kk_counted.specs.CountedMachine.{at_counted, bound_then, at_end, at_stuck, with_heap, arm_at, case_step, give_step, in_code, tail_step, if_made_by, Named, cell_named, used_values, other_values, opened_heap, unique_heap, open_step, call_step, form_step, counted_code_step, counted_step_at, counted_step_of, counted_step, counted_ending_of, counted_machine}
 use Rattle.kk_counted.specs.CountedStates.{CountedSetting, CountedJoin, CountedFrame, CountedControl, running, stopped, stuck, CountedConfiguration, CountedState, no_function, counted_start, counted_first_state}
@@ -106,30 +107,13 @@ among_more x xs ys each y is = by_test (x == y) is (each y)
     by_test true is later = refl
     by_test false is later = later is
 
-among_longer : (x : ℕ) (ys : List ℕ) → AreIn ys (x ∷ ys)
-among_longer x ys y is = by_test (x == y)
-  where
-    by_test : (t : Bool) → (t || is_among ys y) ≡ true
-    by_test true = refl
-    by_test false = is
-
-among_first : (x : ℕ) (xs ys : List ℕ) → is_among ys x ≡ true → AreIn xs ys → AreIn (x ∷ xs) ys
-among_first x xs ys first each y is = by_test (x == y) refl is (each y)
+first_in : (x : ℕ) (xs ys : List ℕ) → is_among ys x ≡ true → AreIn xs ys → AreIn (x ∷ xs) ys
+first_in x xs ys first each y is = by_test (x == y) refl is (each y)
   where
     by_test : (t : Bool) → (x == y) ≡ t → (t || is_among xs y) ≡ true → (is_among xs y ≡ true → is_among ys y ≡ true)
         → is_among ys y ≡ true
     by_test true here is later = ap (is_among ys) (sym (same x y here)) ∙ first
     by_test false here is later = later is
-
-among_both : (xs ys zs : List ℕ) → AreIn xs zs → AreIn ys zs → AreIn (xs ++ ys) zs
-among_both xs ys zs one two y is = by_case (among_cases xs ys y is)
-  where
-    by_case : (is_among xs y ≡ true) ⊎ (is_among ys y ≡ true) → is_among zs y ≡ true
-    by_case (inl here) = one y here
-    by_case (inr there) = two y there
-
-among_itself : (x : ℕ) (xs : List ℕ) → is_among (x ∷ xs) x ≡ true
-among_itself x xs = ap (λ t. t || is_among xs x) (itself x)
 
 -- a bound variable's value fits its mark
 pub value_fits : (holds : ℕ → Bool) (environment : Environment) (x : ℕ) → EnvironmentFits holds environment
@@ -162,7 +146,7 @@ pub fields_grow : (xs : List ℕ) (vs : List Value) (environment : Environment) 
 fields_grow [] vs environment y is = is
 fields_grow (x ∷ xs) [] environment y is = is
 fields_grow (x ∷ xs) (v ∷ vs) environment y is =
-    fields_grow xs vs (record { variable = x; value = v } ∷ environment) y (among_longer x (variables_of environment) y is)
+    fields_grow xs vs (record { variable = x; value = v } ∷ environment) y (among_later x y (variables_of environment) is)
 
 module _ (holds : ℕ → Bool) where
   fields_new : (xs : List ℕ) (marks : List Bool) (vs : List Value) (environment : Environment) → HaveMarks holds xs marks
@@ -172,8 +156,8 @@ module _ (holds : ℕ → Bool) where
   fields_new (x ∷ xs) [] vs environment have fit y is = absurd have
   fields_new (x ∷ xs) (mark ∷ marks) [] environment have fit y is = absurd fit
   fields_new (x ∷ xs) (mark ∷ marks) (v ∷ vs) environment have fit y is =
-      among_first x xs (variables_of (bind_fields xs vs (record { variable = x; value = v } ∷ environment)))
-      (fields_grow xs vs (record { variable = x; value = v } ∷ environment) x (among_itself x (variables_of environment)))
+      first_in x xs (variables_of (bind_fields xs vs (record { variable = x; value = v } ∷ environment)))
+      (fields_grow xs vs (record { variable = x; value = v } ∷ environment) x (among_first x (variables_of environment)))
       (fields_new xs marks vs (record { variable = x; value = v } ∷ environment) have.1 fit.1) y is
 
   fields_fit : (xs : List ℕ) (marks : List Bool) (vs : List Value) (environment : Environment) → HaveMarks holds xs marks
@@ -257,10 +241,6 @@ byte_fits (Some byte) = tt
 
 -- ---- steps
 
-abbrev OnCode : (Counted → Type 0) → Option Counted → Type 0
-OnCode P None = Unit {0}
-OnCode P (Some code) = P code
-
 module _ (marks : CellMarks) (holds : ℕ → ℕ → Bool) (setting : CountedSetting)
     (marked : AreMarked marks holds setting.program) where
   abbrev Fits : List ℕ → CountedConfiguration → Type 0
@@ -286,7 +266,7 @@ module _ (marks : CellMarks) (holds : ℕ → ℕ → Bool) (setting : CountedSe
         values_fit = (fits, values);
         joins_fit = joins_longer marks (holds f) (result_mark marks f) next environment
             (record { variable = x; value = v } ∷ environment) joins
-            (among_longer x (variables_of environment)) waits;
+            (λ y. among_later x y (variables_of environment)) waits;
       },
       frames,
     ),
@@ -415,7 +395,7 @@ module _ (marks : CellMarks) (holds : ℕ → ℕ → Bool) (setting : CountedSe
               bound = fields ++ bound;
               given = given;
               code_marked = code;
-              bound_in = among_both fields bound (variables_of (bind_fields fields named.fields environment))
+              bound_in = in_both fields bound (variables_of (bind_fields fields named.fields environment))
                   (fields_new (holds f) fields (field_marks marks c) named.fields environment opens.1.1 on)
                   (λ y is. fields_grow fields named.fields environment y (known y is));
               values_fit = fields_fit (holds f) fields (field_marks marks c) named.fields environment opens.1.1 on values;

@@ -1,14 +1,8 @@
 -- Code spends what it owns in any order.
-use Rattle.std.proofs.Common.{ℕ, List, Option, sym, ◌∙◌}
+use Rattle.std.proofs.Common.{ℕ, List, Option, ◌∙◌}
 use Rattle.kk_syntax.specs.PositionsOf.{PositionTable}
 use Rattle.kk_counted.specs.CountedCodes.{Counted, give, tail_call, case, compute, inside, read, open_cell, if_unique, dup, drop, CountedFunction}
 use Rattle.kk_counted.specs.Spending.{AreEven, Spends}
-
-pub even_then : (xs ys zs : List ℕ) → AreEven xs ys → AreEven ys zs → AreEven xs zs
-even_then xs ys zs first second = λ weight. first weight ∙ second weight
-
-pub even_back : (xs ys : List ℕ) → AreEven xs ys → AreEven ys xs
-even_back xs ys even = λ weight. sym (even weight)
 
 module _ (positions : PositionTable) (functions : List CountedFunction) where
   pub spends_even : (lent readable : List ℕ) (left : Option (List ℕ)) (owned other : List ℕ) → AreEven other owned → (code : Counted) → Spends positions functions lent readable left owned code → Spends positions functions lent readable left other code

@@ -1,5 +1,5 @@
 -- Steps that lead from what is owned to what is owned.
-use Rattle.std.proofs.Common.{◌≡◌, ◌⊎◌, inl, inr, ℕ, ◌||◌, Bool, true, false, List, [], ◌∷◌, ◌++◌, map, Option, Some, None, arith, refl, sym, ap, ◌∙◌, subst}
+use Rattle.std.proofs.Common.{◌≡◌, ◌⊎◌, inl, inr, ℕ, Bool, true, false, List, [], ◌∷◌, ◌++◌, map, Option, Some, None, arith, refl, sym, ap, ◌∙◌, subst}
 use Rattle.std.specs.Prelude.{filter}
 use Rattle.kk_syntax.specs.declared.program.Form.{Form}
 use Rattle.kk_syntax.specs.Shapes.{is_among}
@@ -10,9 +10,8 @@ use Rattle.kk_counted.specs.CountedForms.{Move, computes, runs, reads, dups, dro
 use Rattle.kk_counted.specs.Spending.{total, AreEven, AllAmong, AreFresh, AreApart, used_by, lent_by, FitsForm, Spends, SpendsAll}
 use Rattle.kk_counted.specs.Drafts.{opens_by}
 use Rattle.kk_counted.specs.Emitting.{HaveParameters, Spent, AllSpent, Leads}
-use Rattle.kk_counted.proofs.CountChanges.{itself}
 use Rattle.kk_counted.proofs.Evenness.{total_append, among_front, among_behind}
-use Rattle.kk_counted.proofs.Variables.{among_cases}
+use Rattle.kk_counted.proofs.Variables.{among_first, among_cases}
 
 -- ---- code spends what is owned in any order
 
@@ -90,15 +89,12 @@ dups_spend positions functions lent readable left (x ∷ used) now to rest among
   (
     λ w. refl,
     (
-      among_behind lent (readable ++ now) x (among_front readable now x (among x (first_among x used))),
+      among_behind lent (readable ++ now) x (among_front readable now x (among x (among_first x used))),
       dups_spend positions functions lent readable left used (x ∷ now) to rest (λ y is. among y (later_among y is)) (λ w. even w ∙ turned w) spends,
     ),
   ),
 )
   where
-    first_among : (y : ℕ) (ys : List ℕ) → is_among (y ∷ ys) y ≡ true
-    first_among y ys = ap (λ t. t || is_among ys y) (itself y)
-
     later_among : (y : ℕ) → is_among used y ≡ true → is_among (x ∷ used) y ≡ true
     later_among y is = among_behind (x ∷ []) used y is
 

@@ -8,6 +8,7 @@ use Rattle.kk_source.proofs.Live.{among_within, live_reached, reached_live}
 use Rattle.kk_counted.specs.Heaps.{Held, Heap, forwards, count_at, fields_held, one_if_counted, busy}
 use Rattle.kk_counted.specs.References.{refs, fields_if, counted_fields, IsSound}
 use Rattle.kk_counted.proofs.CountChanges.{itself, refs_append, count_top, count_below, fields_top, fields_below, counted_within}
+use Rattle.kk_counted.proofs.HeapChanges.{one_counted}
 use Rattle.kk_counted.proofs.Heaps.{positive}
 use Rattle.kk_counted.proofs.Reachability.{one_among, store_fields, forwards_length, reached_field, reached_counted, beside}
 
@@ -60,10 +61,6 @@ pub counted_is_reached : (owned : List Value) (heap : Heap) → IsSound owned he
 counted_is_reached owned heap sound at =
     (λ one. counted_reached owned heap sound (length heap) at (omega arith) one, λ r. reached_counted (refs owned) heap sound.counts owned at (λ q. omega arith) r)
 
-one_if : (n : ℕ) → 1 ≤ n → one_if_counted n ≡ 1
-one_if zero one = absurd (omega (arith, one))
-one_if (suc n) one = refl
-
 -- the number of counted cells, by a test for them
 pub busy_passing : (heap : Heap) (passes : ℕ → Bool) → ((at : ℕ) → at < length heap → passes at ≡ true → 1 ≤ count_at heap at) → ((at : ℕ) → at < length heap → 1 ≤ count_at heap at → passes at ≡ true) → busy heap ≡ passing passes (length heap)
 busy_passing [] passes only all = refl
@@ -84,7 +81,7 @@ busy_passing (held ∷ heap) passes only all =
 
     head : (t : Bool) → passes (length heap) ≡ t → one_if_counted held.count ≡ (if passes (length heap) then 1 else 0)
     head true is =
-        rw is (one_if held.count (omega (arith, only (length heap) (omega arith) is, count_top held heap (length heap) (itself (length heap)))))
+        rw is (one_counted held.count (omega (arith, only (length heap) (omega arith) is, count_top held heap (length heap) (itself (length heap)))))
     head false is = rw is (none held.count refl is)
 
 pub counted_are_live : (owned : List Value) (heap : Heap) → IsSound owned heap → busy heap ≡ live (forwards heap) owned

@@ -23,11 +23,11 @@ use Rattle.kk_counted.specs.Spending.{AreEven, IsSpent}
 use Rattle.kk_counted.specs.Keeping.{values_of, Own, IsRunning, IsKeptAt, IsKept, CallsOne, IsCell, HasShape, FitsAlways, HasShapeAlways, counted_after}
 use Rattle.kk_counted.proofs.CountChanges.{itself, refs_append}
 use Rattle.kk_counted.proofs.Heaps.{dupped, dropped, with_place, opened, opened_by_count}
-use Rattle.kk_counted.proofs.Variables.{even_refs, fields_part}
+use Rattle.kk_counted.proofs.Variables.{among_first, even_refs, fields_part}
 use Rattle.kk_counted.proofs.Looks.{cell_same, chosen_same}
 use Rattle.kk_counted.proofs.SoundSteps.{LeadsTo, NamedCell, OnNamed, named_cell}
 use Rattle.kk_counted.proofs.SoundRuns.{performed_kept, keeps_sound}
-use Rattle.kk_counted.proofs.SoundUses.{use_counted, among_first}
+use Rattle.kk_counted.proofs.SoundUses.{use_counted}
 
 abbrev Going : CountedConfiguration → Type 0
 Going c = NotStuck c.control
@@ -41,7 +41,7 @@ and_both false b first second = first
 is_equal : (a b : ℕ) → a ≡ b → (a == b) ≡ true
 is_equal a b same = ap (λ n. n == b) same ∙ itself b
 
-named_place : (c count : ℕ) (heap : Heap) (at : ℕ) (cell : Cell) → cell_at heap at ≡ Some cell → cell.made_by ≡ c → length cell.fields ≡ count → cell_named c count heap (place at) ≡ Some (record { at = at; fields = cell.fields })
+pub named_place : (c count : ℕ) (heap : Heap) (at : ℕ) (cell : Cell) → cell_at heap at ≡ Some cell → cell.made_by ≡ c → length cell.fields ≡ count → cell_named c count heap (place at) ≡ Some (record { at = at; fields = cell.fields })
 named_place c count heap at cell here made many =
     rw here (rw (and_both (cell.made_by == c) (length cell.fields == count) (is_equal cell.made_by c made) (is_equal (length cell.fields) count many)) refl)
 

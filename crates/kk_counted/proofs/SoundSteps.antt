@@ -165,7 +165,7 @@ named_cell c count heap (place at) = by_held (held_at heap at) refl
 
 -- ---- the steps
 
-abbrev OnCode : (Counted → Type 0) → Option Counted → Type 0
+abbrev pub OnCode : (Counted → Type 0) → Option Counted → Type 0
 OnCode P None = Unit {0}
 OnCode P (Some code) = P code
 

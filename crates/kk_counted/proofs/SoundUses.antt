@@ -14,29 +14,15 @@ use Rattle.kk_counted.specs.CountedMachine.{counted_machine}
 use Rattle.kk_counted.specs.References.{refs, IsCounted}
 use Rattle.kk_counted.specs.Spending.{AreFresh, IsSpent}
 use Rattle.kk_counted.specs.Keeping.{values_of, FitsAt, FitsAlways, counted_after, uses, Own, IsRunning, IsKeptAt, IsKept}
-use Rattle.kk_counted.proofs.CountChanges.{same, itself}
+use Rattle.kk_counted.proofs.CountChanges.{same}
+use Rattle.kk_counted.proofs.Evenness.{among_front, among_behind}
 use Rattle.kk_counted.proofs.Looks.{chosen_same}
 use Rattle.kk_counted.proofs.SoundSteps.{usable}
 use Rattle.kk_counted.proofs.SoundRuns.{keeps_sound}
+use Rattle.kk_counted.proofs.Variables.{among_first}
 
 none : (y : ℕ) → is_among [] y ≡ true → ⊥
 none y is = absurd (cc)
-
-append_left : (xs ys : List ℕ) (x : ℕ) → is_among xs x ≡ true → is_among (xs ++ ys) x ≡ true
-append_left [] ys x is = absurd (cc)
-append_left (y ∷ xs) ys x is = by_test (y == x) is (append_left xs ys x)
-  where
-    by_test : (t : Bool) → (t || is_among xs x) ≡ true → (is_among xs x ≡ true → is_among (xs ++ ys) x ≡ true) → (t || is_among (xs ++ ys) x) ≡ true
-    by_test true is later = refl
-    by_test false is later = later is
-
-append_right : (xs ys : List ℕ) (x : ℕ) → is_among ys x ≡ true → is_among (xs ++ ys) x ≡ true
-append_right [] ys x is = is
-append_right (y ∷ xs) ys x is = by_test (y == x) (append_right xs ys x is)
-  where
-    by_test : (t : Bool) → is_among (xs ++ ys) x ≡ true → (t || is_among (xs ++ ys) x) ≡ true
-    by_test true later = refl
-    by_test false later = later
 
 one_only : (y x : ℕ) → is_among (y ∷ []) x ≡ true → y ≡ x
 one_only y x is = by_test (y == x) refl is
@@ -44,9 +30,6 @@ one_only y x is = by_test (y == x) refl is
     by_test : (t : Bool) → (y == x) ≡ t → (t || false) ≡ true → y ≡ x
     by_test true same_ones is = same y x same_ones
     by_test false other is = absurd (cc)
-
-pub among_first : (x : ℕ) (xs : List ℕ) → is_among (x ∷ xs) x ≡ true
-among_first x xs = rw (itself x) refl
 
 module _ (positions : PositionTable) (setting : CountedSetting) (spent : IsSpent positions setting.program) where
   module _ (from : CountedConfiguration) (below : List Value) (own : Own positions setting.program.functions (forwards from.heap) from.frames below) (environment : Environment) (joins : List CountedJoin) where
@@ -63,20 +46,20 @@ module _ (positions : PositionTable) (setting : CountedSetting) (spent : IsSpent
         (usable positions setting spent from below own environment joins x r.lent [] r.owned r.spends.0 r.spends.1.0 (either r.spends.1.1.1.0) r.reached (λ z there. absurd (none z there)) r.sound)
       where
         either : (is_among r.lent x ≡ true) ⊎ ((is_among r.spends.0 x ≡ true) × AreFresh fields r.lent) → is_among (r.lent ++ r.spends.0) x ≡ true
-        either (inl here) = append_left r.lent r.spends.0 x here
-        either (inr here) = append_right r.lent r.spends.0 x here.0
+        either (inl here) = among_front r.lent r.spends.0 x here
+        either (inr here) = among_behind r.lent r.spends.0 x here.0
     use_counted (open_cell x c fields used rest) r y is =
         subst (λ z. IsCounted from.heap (value_of environment z)) (one_only x y is)
-        (usable positions setting spent from below own environment joins x r.lent [] r.owned (x ∷ r.spends.0) r.spends.1.0 (append_right r.lent (x ∷ r.spends.0) x (among_first x r.spends.0)) r.reached (λ z there. absurd (none z there)) r.sound)
+        (usable positions setting spent from below own environment joins x r.lent [] r.owned (x ∷ r.spends.0) r.spends.1.0 (among_behind r.lent (x ∷ r.spends.0) x (among_first x r.spends.0)) r.reached (λ z there. absurd (none z there)) r.sound)
     use_counted (if_unique x c fields used rest) r y is =
         subst (λ z. IsCounted from.heap (value_of environment z)) (one_only x y is)
-        (usable positions setting spent from below own environment joins x r.lent [] r.owned (x ∷ r.spends.0) r.spends.1.0 (append_right r.lent (x ∷ r.spends.0) x (among_first x r.spends.0)) r.reached (λ z there. absurd (none z there)) r.sound)
+        (usable positions setting spent from below own environment joins x r.lent [] r.owned (x ∷ r.spends.0) r.spends.1.0 (among_behind r.lent (x ∷ r.spends.0) x (among_first x r.spends.0)) r.reached (λ z there. absurd (none z there)) r.sound)
     use_counted (dup x rest) r y is =
         subst (λ z. IsCounted from.heap (value_of environment z)) (one_only x y is)
         (usable positions setting spent from below own environment joins x r.lent r.readable r.owned r.spends.0 r.spends.1.0 r.spends.1.1.0 r.reached r.counted r.sound)
     use_counted (drop x rest) r y is =
         subst (λ z. IsCounted from.heap (value_of environment z)) (one_only x y is)
-        (usable positions setting spent from below own environment joins x r.lent [] r.owned (x ∷ r.spends.0) r.spends.1.0 (append_right r.lent (x ∷ r.spends.0) x (among_first x r.spends.0)) r.reached (λ z there. absurd (none z there)) r.sound)
+        (usable positions setting spent from below own environment joins x r.lent [] r.owned (x ∷ r.spends.0) r.spends.1.0 (among_behind r.lent (x ∷ r.spends.0) x (among_first x r.spends.0)) r.reached (λ z there. absurd (none z there)) r.sound)
 
 pub uses_counted : (positions : PositionTable) (setting : CountedSetting) (weight : CountedState → ℕ) (input : List ℕ) → IsSpent positions setting.program
     → ((k : ℕ) → FitsAt (state (counted_machine weight setting) k (counted_first_state setting input)).machine.control)

@@ -7,7 +7,7 @@ use Rattle.kk_counted.specs.Tokens.{Slot, spent, null, token, is_unspent, is_tok
 use Rattle.kk_counted.specs.TokenStates.{TokenFrame}
 use Rattle.kk_counted.specs.TokenKeeping.{links_of, chain_of, AreHeldFrames}
 use Rattle.kk_counted.proofs.CountChanges.{same, itself}
-use Rattle.kk_counted.proofs.Variables.{other_variable}
+use Rattle.kk_counted.proofs.Variables.{turned, among_first, among_later, other_variable}
 use Rattle.kk_counted.proofs.SlotMarks.{Which, this, other, which, slot_here, slot_there, slot_at}
 
 -- slots are equal below a frame
@@ -22,16 +22,6 @@ equal_one n f y slot slots far g z less = sym (slot_there f y g z slot slots apa
 
     apart : ((g == f) && (z == y)) ≡ false
     apart = rw first refl
-
-among_first : (y : ℕ) (ys : List ℕ) → is_among (y ∷ ys) y ≡ true
-among_first y ys = rw (itself y) refl
-
-among_later : (y z : ℕ) (ys : List ℕ) → is_among ys z ≡ true → is_among (y ∷ ys) z ≡ true
-among_later y z ys is = rw is (or_true (y == z))
-  where
-    or_true : (t : Bool) → (t || true) ≡ true
-    or_true true = refl
-    or_true false = refl
 
 links_same : (slots others : ℕ → Slot) (f : ℕ) (ys : List ℕ) (older newer : List Link)
     → ((z : ℕ) → is_among ys z ≡ true → slots z ≡ others z) → older ≡ newer → links_of others f ys newer ≡ links_of slots f ys older
@@ -115,9 +105,6 @@ pub token_is : (slot : Slot) → is_token slot ≡ true → (p : ℕ) × (slot �
 token_is spent is = absurd (cc)
 token_is null is = absurd (cc)
 token_is (token p) is = (p, refl)
-
-turned : (y z : ℕ) → (y == z) ≡ false → (z == y) ≡ false
-turned y z apart = grind arith
 
 row_top : (slots : ℕ → ℕ → Slot) (ys : List ℕ) (helds : List (List ℕ)) (link : Link) (links : List Link) → AreApart ys
     → (chain_of slots helds ≡ link ∷ links → IsTop slots helds link links)

@@ -26,15 +26,13 @@ use Rattle.kk_counted.specs.TokenEmitting.{LeadsTokens, AreFalling, known_behind
 use Rattle.kk_counted.specs.TokenEmitting.{LeaveNone, IsTokenArm, AreTokenArms, IsTokenSplit, AreTokenSplits, IsTokened}
 use Rattle.kk_counted.specs.TokenEmitting.{KeepsTokens, AreNone, CanEnd, AreNewestTokens}
 use Rattle.kk_counted.specs.Emitting.{AreLow}
+use Rattle.kk_counted.proofs.CaseArms.{copies_length}
 use Rattle.kk_counted.proofs.TokenForms.{among_without}
+use Rattle.kk_counted.proofs.Variables.{right_false}
 use Rattle.kk_counted.proofs.TokenDraftChanges.{bare_more, bare_plug, plug_more, leads_then, append_nil, leaves_plug, leaves_more}
 use Rattle.kk_counted.proofs.TokenDraftChanges.{not_closed}
 
 -- ---- a branch begins
-
-long_copies : (n : ℕ) (xs : List ℕ) → length (copies n xs) ≡ n
-long_copies zero xs = refl
-long_copies (suc n) xs = omega (arith, long_copies n xs)
 
 pub no_two : {A : Type 0} {b : Bool} → b ≡ true → b ≡ false → A
 no_two one two = absurd (clash one two)
@@ -73,7 +71,7 @@ forked_keeps d e t u keeps writes on decisions each rows becomes is failed =
               leads = old.leads here.0 here.1;
               leaves = old.leaves;
               falling = old.falling;
-              left = ap (λ n. copies n (reverse t.spare)) (sym (long_copies rows each));
+              left = ap (λ n. copies n (reverse t.spare)) (sym (copies_length rows each));
               arms = tt;
             },
             old.splits,
@@ -207,16 +205,12 @@ module _ (d : Draft) (t : TokenDraft) (is : IsTokened d t) (code : Counted) (end
           subst (λ (all : List TokenSplit). LeavesKnown (known_behind t.moves (first_known all)) end) of leaves,
         );
         goes = λ both.
-            let on = goes (neither branch.tails tails both) in
+            let on = goes (right_false branch.tails tails both) in
             (on.0, (on.1.0, (subst (λ (all : List TokenSplit). LeadsTokens (first_spare all) t.spare t.moves) of on.1.1, is.falling)));
         stops = λ one.
             let nothing : t.spare ≡ [] = (subst (λ b. AreNone b branch.arms t.spare) one none).0 in
             (nothing, subst (λ (all : List TokenSplit). SpendsTokens [] (first_spare all) [] (plug_tokened t.moves end)) of (stops nothing));
       }
-    where
-      neither : (a b : Bool) → (a || b) ≡ false → b ≡ false
-      neither true b is = no_two refl is
-      neither false b is = is
 
   ended_now : (splits : List Split) (branches : List TokenSplit) → t.splits ≡ branches → AreTokenSplits splits branches
       → IsInArm splits → CanEnd t tails branches

@@ -21,6 +21,7 @@ use Rattle.kk_counted.specs.TokenEmitting.{LeadsTokens, AreFalling, known_by, kn
 use Rattle.kk_counted.specs.TokenEmitting.{known_now, IsTokenArm, AreTokenArms, IsTokenSplit, AreTokenSplits, IsTokened}
 use Rattle.kk_counted.specs.TokenEmitting.{KeepsTokens}
 use Rattle.kk_counted.specs.Emitting.{AreLow}
+use Rattle.kk_counted.proofs.CountChanges.{same as equal_slots, itself}
 use Rattle.kk_counted.proofs.TokenForms.{among_without}
 use Rattle.kk_counted.proofs.TokenDraftChanges.{bare_more, bare_plug, plug_more, leads_then, append_nil, leaves_plug, leaves_more}
 use Rattle.kk_counted.proofs.TokenDraftChanges.{not_closed}
@@ -57,14 +58,8 @@ falling_down base (suc n) = (down_low base n, falling_down base n)
 next_low : (y : ℕ) (ys : List ℕ) → AreLow y ys → next_slot ys ≤ y
 next_low y [] low = omega arith
 next_low y (z ∷ ys) low = omega (arith, low z (ap (λ b. b || is_among ys z) (itself z)))
-  where
-    itself : (n : ℕ) → (n == n) ≡ true
-    itself n = grind (arith, nat_tests)
 
 -- ---- tokens are moved
-
-equal_slots : (y z : ℕ) → (y == z) ≡ true → y ≡ z
-equal_slots y z is = grind (arith, nat_tests, is)
 
 -- a slot comes to the front
 fronted : (t a b : Bool) → (a || (t || b)) ≡ ((t || a) || b)
@@ -136,9 +131,6 @@ module _ (x : ℕ) (left : List ℕ) (base : ℕ) where
 
       lower : next_slot ys ≤ base + n
       lower = omega (arith, below, next_low y ys is.falling.0)
-
-      itself : (n : ℕ) → (n == n) ≡ true
-      itself n = grind (arith, nat_tests)
 
       or_true : (a b : Bool) → (a || (true || b)) ≡ true
       or_true true b = refl

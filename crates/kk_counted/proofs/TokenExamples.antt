@@ -1,14 +1,14 @@
 -- Runs of small programs with tokens, computed.
-use Rattle.std.proofs.Common.{◌≡◌, ℕ, pos, true, List, [], ◌∷◌, length, Some, refl}
+use Rattle.std.proofs.Common.{◌≡◌, ℕ, pos, true, List, [], ◌∷◌, length, Option, Some, refl}
 use Rattle.std.specs.Int.{int_wrap}
 use Rattle.kk_base.specs.Machines.{trace, state, ending_after}
 use Rattle.kk_syntax.specs.declared.operator.BinaryOperator.TheVariants.{Add}
 use Rattle.kk_syntax.specs.declared.program.Form.TheVariants.{Number, Unit as Nothing, Binary, Construct, Call}
-use Rattle.kk_source.specs.State.{heap_full, ended}
+use Rattle.kk_source.specs.State.{End, heap_full, ended}
 use Rattle.kk_source.specs.Notes.{Note, built, called}
 use Rattle.kk_counted.specs.Heaps.{busy}
 use Rattle.kk_counted.specs.TokenedCodes.{Tokened, TokenedArms, TokenedFunction}
-use Rattle.kk_counted.specs.TokenStates.{TokenSetting, TokenControl, TokenState, token_first_state}
+use Rattle.kk_counted.specs.TokenStates.{TokenSetting, TokenState, token_first_state}
 use Rattle.kk_counted.specs.BareForms.{bare}
 use Rattle.kk_counted.specs.TokenCosts.{room_needed, openings}
 use Rattle.kk_counted.specs.TokenMachine.{token_machine}
@@ -16,19 +16,22 @@ use Rattle.kk_counted.specs.Tokens.{null, marked}
 use Rattle.kk_counted.specs.TokenSpending.{SpendsTokens}
 use Rattle.kk_counted.proofs.Examples.{nil_or_cons}
 
-abbrev function : ℕ → Tokened → TokenedFunction
+abbrev pub function : ℕ → Tokened → TokenedFunction
 function parameters body = record { parameters = parameters; body = body }
 
 -- the second function is `main`
-abbrev program : List TokenedFunction → ℕ → TokenSetting
+abbrev pub program : List TokenedFunction → ℕ → TokenSetting
 program functions cells =
     record { program = record { functions = functions; texts = []; main = 1 }; cells = cells; depth = 5; leaves = true }
 
-abbrev after : ℕ → TokenSetting → TokenState
+abbrev pub after : ℕ → TokenSetting → TokenState
 after steps setting = state (token_machine (λ s. 1) setting) steps (token_first_state setting [])
 
-abbrev tells : ℕ → TokenSetting → List Note
+abbrev pub tells : ℕ → TokenSetting → List Note
 tells steps setting = trace (token_machine (λ s. 1) setting) steps (token_first_state setting [])
+
+abbrev pub ends : ℕ → TokenSetting → Option End
+ends steps setting = ending_after (token_machine (λ s. 1) setting) steps (token_first_state setting [])
 
 -- fun inc(xs) { match xs { Nil -> Nil; Cons(x, xx) -> Cons(x + 1, inc(xx)) } }: the token of the cell is held over the call, and
 -- the new cell fills it
@@ -66,7 +69,7 @@ inc_spends = (
 )
 
 -- a list of two cells, which variable 4 names
-abbrev two_cells : Tokened → TokenedFunction
+abbrev pub two_cells : Tokened → TokenedFunction
 two_cells rest =
     function 0
     (Tokened.compute 0 (Construct 2) [] [] (Tokened.compute 1 (Number (pos 7)) [] []
@@ -92,7 +95,7 @@ unique_tells : tells 40 (unique_run 2) ≡ built 0 ∷ built 1 ∷ called 1 ∷ 
 unfolding int_wrap
 unique_tells = refl
 
-unique_ends : ending_after (token_machine (λ s. 1) (unique_run 2)) 40 (token_first_state (unique_run 2) []) ≡ Some ended
+unique_ends : ends 40 (unique_run 2) ≡ Some ended
 unfolding int_wrap
 unique_ends = refl
 
@@ -104,11 +107,11 @@ no_token_is_left : marked (after 40 (unique_run 2)).machine.tokens.marks (length
 unfolding int_wrap
 no_token_is_left = refl
 
-unique_in_one : ending_after (token_machine (λ s. 1) (unique_run 1)) 40 (token_first_state (unique_run 1) []) ≡ Some heap_full
+unique_in_one : ends 40 (unique_run 1) ≡ Some heap_full
 unfolding int_wrap
 unique_in_one = refl
 
-unique_in_none : ending_after (token_machine (λ s. 1) (unique_run 0)) 40 (token_first_state (unique_run 0) []) ≡ Some heap_full
+unique_in_none : ends 40 (unique_run 0) ≡ Some heap_full
 unfolding int_wrap
 unique_in_none = refl
 
@@ -117,7 +120,7 @@ shared_tells : tells 50 (shared_run 4) ≡ built 0 ∷ built 1 ∷ called 1 ∷ 
 unfolding int_wrap
 shared_tells = refl
 
-shared_ends : ending_after (token_machine (λ s. 1) (shared_run 4)) 50 (token_first_state (shared_run 4) []) ≡ Some ended
+shared_ends : ends 50 (shared_run 4) ≡ Some ended
 unfolding int_wrap
 shared_ends = refl
 
@@ -129,8 +132,7 @@ shared_in_three : tells 50 (shared_run 3) ≡ built 0 ∷ built 1 ∷ called 1 �
 unfolding int_wrap
 shared_in_three = refl
 
-shared_ends_in_three : ending_after (token_machine (λ s. 1) (shared_run 3)) 50 (token_first_state (shared_run 3) []) ≡ Some
-    heap_full
+shared_ends_in_three : ends 50 (shared_run 3) ≡ Some heap_full
 unfolding int_wrap
 shared_ends_in_three = refl
 
@@ -157,7 +159,7 @@ abbrev boxes : Tokened → TokenedFunction
 boxes rest = function 1 (Tokened.compute 1 (Construct 4) (0 ∷ []) [] rest)
 
 -- a box is opened, its token held over the call, and filled behind it
-abbrev holds : Tokened → TokenedFunction
+abbrev pub holds : Tokened → TokenedFunction
 holds rest =
     function 0
     (Tokened.compute 0 (Number (pos 5)) [] [] (Tokened.compute 1 (Construct 4) (0 ∷ []) []
@@ -177,7 +179,7 @@ keeping_run cells =
 reopen_in_one : tells 30 (reopen_run 1) ≡ built 0 ∷ called 1 ∷ built 0 ∷ built 0 ∷ []
 reopen_in_one = refl
 
-reopen_ends : ending_after (token_machine (λ s. 1) (reopen_run 1)) 30 (token_first_state (reopen_run 1) []) ≡ Some ended
+reopen_ends : ends 30 (reopen_run 1) ≡ Some ended
 reopen_ends = refl
 
 -- before the call the token is on the chain; when it is taken it is not, and its slot is null
@@ -190,13 +192,13 @@ taken_then = refl
 null_then : (after 6 (reopen_run 1)).machine.tokens.slots 0 0 ≡ null
 null_then = refl
 
-keeping_in_two : ending_after (token_machine (λ s. 1) (keeping_run 2)) 30 (token_first_state (keeping_run 2) []) ≡ Some ended
+keeping_in_two : ends 30 (keeping_run 2) ≡ Some ended
 keeping_in_two = refl
 
 keeping_in_one : tells 30 (keeping_run 1) ≡ built 0 ∷ called 1 ∷ built 0 ∷ built 1 ∷ []
 keeping_in_one = refl
 
-keeping_is_full : ending_after (token_machine (λ s. 1) (keeping_run 1)) 30 (token_first_state (keeping_run 1) []) ≡ Some heap_full
+keeping_is_full : ends 30 (keeping_run 1) ≡ Some heap_full
 keeping_is_full = refl
 
 -- ---- the newest token is null, and an older one of the same function is taken
@@ -232,7 +234,7 @@ adds_in_two : tells 40 (adds_run 2) ≡ built 0 ∷ built 1 ∷ called 1 ∷ bui
 unfolding int_wrap
 adds_in_two = refl
 
-adds_ends : ending_after (token_machine (λ s. 1) (adds_run 2)) 40 (token_first_state (adds_run 2) []) ≡ Some ended
+adds_ends : ends 40 (adds_run 2) ≡ Some ended
 unfolding int_wrap
 adds_ends = refl
 
@@ -240,7 +242,7 @@ adds_leaves_none : busy (after 40 (adds_run 2)).machine.heap ≡ 0
 unfolding int_wrap
 adds_leaves_none = refl
 
-adds_in_one : ending_after (token_machine (λ s. 1) (adds_run 1)) 40 (token_first_state (adds_run 1) []) ≡ Some heap_full
+adds_in_one : ends 40 (adds_run 1) ≡ Some heap_full
 unfolding int_wrap
 adds_in_one = refl
 
@@ -264,30 +266,3 @@ keeps_the_same = refl
 -- what is kept is what the token has, whatever the argument is
 keeps_what_is_there : (after 6 (keeps 5 (1 ∷ []))).machine.heap ≡ (after 6 (keeps 4 [])).machine.heap
 keeps_what_is_there = refl
-
--- ---- stuck: at a second spending of a token, by each form that spends
-
-abbrev once_open : Tokened → TokenSetting
-once_open rest =
-    program
-    (function 0 (Tokened.give 0) ∷ function 0
-    (Tokened.compute 0 (Number (pos 5)) [] [] (Tokened.compute 1 (Construct 4) (0 ∷ []) []
-    (Tokened.if_unique 1 4 (2 ∷ []) (2 ∷ []) 0 (Tokened.free 0 rest)))) ∷ [])
-    2
-
-freed_twice : (after 6 (once_open (Tokened.free 0 (Tokened.give 0)))).machine.control ≡ TokenControl.stuck
-freed_twice = refl
-
-filled_twice : (after 6 (once_open (Tokened.fill 3 0 4 2 [] [] [] (Tokened.give 0)))).machine.control ≡ TokenControl.stuck
-filled_twice = refl
-
-moved_twice : (after 6 (once_open (Tokened.move 1 0 (Tokened.give 0)))).machine.control ≡ TokenControl.stuck
-moved_twice = refl
-
-held_twice : (after 6 (once_open (Tokened.hold 0 (Tokened.give 0)))).machine.control ≡ TokenControl.stuck
-held_twice = refl
-
--- a slot that another function's frame has is not seen: the slot of that number is spent in the frame that runs
-spent_in_another : (after 7 (program (function 1 (Tokened.free 0 (Tokened.give 0)) ∷ holds (Tokened.give 4) ∷ [])
-    2)).machine.control ≡ TokenControl.stuck
-spent_in_another = refl

@@ -35,7 +35,7 @@ told_alike (takes to) (byte ∷ input) = refl
 told_alike (builds found to) input = refl
 told_alike (calls found to) input = refl
 
-led_alike : (action : Action TokenConfiguration) (input : List ℕ)
+pub led_alike : (action : Action TokenConfiguration) (input : List ℕ)
     → bare_state (performed action input).1 ≡ (performed (bare_action action) input).1
 led_alike (goes to) input = refl
 led_alike (puts piece to) input = refl

@@ -1,9 +1,9 @@
 -- Each state of a run with tokens is, without its tokens, a state of the run of the bare form.
-use Rattle.std.proofs.Common.{◌≡◌, ℕ, zero, suc, Bool, true, false, List, [], ◌∷◌, refl, sym, ap, ◌∙◌}
+use Rattle.std.proofs.Common.{◌≡◌, ℕ, zero, suc, Bool, true, false, List, [], refl, sym, ap, ◌∙◌}
 use Rattle.kk_base.specs.Machines.{state}
 use Rattle.kk_source.specs.State.{Environment}
-use Rattle.kk_source.specs.Actions.{Action, goes, puts, takes, builds, calls, performed}
-use Rattle.kk_counted.proofs.TokenRuns.{same_run, function_at}
+use Rattle.kk_source.specs.Actions.{performed}
+use Rattle.kk_counted.proofs.TokenRuns.{led_alike, same_run, function_at}
 use Rattle.kk_counted.proofs.TokenSteps.{follows}
 use Rattle.kk_counted.proofs.TokenOnlyForms.{unseen}
 use Rattle.kk_counted.specs.CountedMachine.{NotStuck, counted_machine}
@@ -13,21 +13,11 @@ use Rattle.kk_counted.specs.Heaps.{Heap}
 use Rattle.kk_counted.specs.Keeping.{counted_after}
 use Rattle.kk_counted.specs.TokenKeeping.{AreKept, AreKeptAt, FillsAt, FillsAlways, token_after}
 use Rattle.kk_counted.specs.TokenMachine.{token_machine, token_code_step}
-use Rattle.kk_counted.specs.TokenRuns.{is_quiet, bare_weight, bare_action}
+use Rattle.kk_counted.specs.TokenRuns.{is_quiet, bare_weight}
 use Rattle.kk_counted.specs.TokenSpending.{AreTokensSpent}
 use Rattle.kk_counted.specs.TokenStates.{TokenSetting, TokenJoin, TokenFrame, TokenControl, TokenConfiguration, TokenState, token_first_state, bare_configuration, bare_state, bare_setting}
 use Rattle.kk_counted.specs.TokenedCodes.{Tokened}
 use Rattle.kk_counted.specs.Tokens.{Tokens}
-
--- without tokens an action leads where its bare action leads
-bare_performed : (action : Action TokenConfiguration) (input : List ℕ) → bare_state (performed action input).1 ≡
-    (performed (bare_action action) input).1
-bare_performed (goes to) input = refl
-bare_performed (puts piece to) input = refl
-bare_performed (takes to) [] = refl
-bare_performed (takes to) (byte ∷ input) = refl
-bare_performed (builds found to) input = refl
-bare_performed (calls found to) input = refl
 
 module _ (weight : CountedState → ℕ) (setting : TokenSetting) (spent : AreTokensSpent setting.program) where
   abbrev StateOf : CountedState → TokenState → Type 0
@@ -54,7 +44,7 @@ module _ (weight : CountedState → ℕ) (setting : TokenSetting) (spent : AreTo
       input).1
   running_step first code environment joins frames heap tokens input kept fills is false quiet = (
     suc is.0,
-    bare_performed (token_code_step setting code environment joins (at code environment joins frames heap tokens)) input
+    led_alike (token_code_step setting code environment joins (at code environment joins frames heap tokens)) input
         ∙ (ap (λ action. (performed action input).1)
         (follows setting spent kept.0 code environment joins
         (at code environment joins frames heap tokens) kept.1 fills quiet).does

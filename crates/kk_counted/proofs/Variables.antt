@@ -29,6 +29,16 @@ turned x y apart = by_test (y == x) refl
     by_test false is = refl
     by_test true is = sym (itself y) ∙ (ap (λ z. z == y) (same y x is) ∙ apart)
 
+pub among_first : (x : ℕ) (xs : List ℕ) → is_among (x ∷ xs) x ≡ true
+among_first x xs = ap (λ t. t || is_among xs x) (itself x)
+
+pub among_later : (y x : ℕ) (xs : List ℕ) → is_among xs x ≡ true → is_among (y ∷ xs) x ≡ true
+among_later y x xs is = by_test (y == x)
+  where
+    by_test : (t : Bool) → (t || is_among xs x) ≡ true
+    by_test true = refl
+    by_test false = is
+
 pub among_cases : (xs ys : List ℕ) (x : ℕ) → is_among (xs ++ ys) x ≡ true → (is_among xs x ≡ true) ⊎ (is_among ys x ≡ true)
 among_cases [] ys x is = inr is
 among_cases (y ∷ xs) ys x is = by_test (y == x) is (among_cases xs ys x)

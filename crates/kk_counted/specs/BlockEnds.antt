@@ -1,12 +1,9 @@
 -- How code ends: each case has an arm, and a block inside ends with values alone.
 use Rattle.std.specs.Prelude.{◌≡◌, ℕ, Bool, true, false, List, Some, slice_get}
 use Rattle.kk_counted.specs.CountedCodes.{Counted, give, tail_call, case, compute, inside, read, open_cell, if_unique, dup, drop, CountedArms, no_arm, arm, CountedFunction}
+pub use Rattle.kk_counted.specs.CountBounds.{HasAnArm}
 
-abbrev pub HasAnArm : CountedArms → Type 0
-HasAnArm no_arm = ⊥
-HasAnArm (arm body rest) = Unit {0}
-
--- so do the ways of a code, which is a block inside or a function's body
+-- the ways of a code, which is a block inside or a function's body, end so
 abbrev mutual
   pub EndsWell : (inner : Bool) → Counted → Type 0
   EndsWell inner (give x) = Unit {0}

@@ -10,7 +10,7 @@ use kk_base::NoMemory;
 use std::alloc::Global;
 
 /// The function of an instance, in counted form. An emitter makes it, or a pass that rewrites one.
-#[derive(Debug, Drop)]
+#[derive(Drop)]
 pub struct CountedFun {
     instance: u32,
     parameters: u32,
@@ -65,7 +65,7 @@ impl CountedFun {
 
 /// A program in counted form: its shape and the functions of its first instances, each of which spends what it owns. Once it
 /// has a function for each instance it is whole.
-#[derive(Debug, Drop)]
+#[derive(Drop)]
 pub struct Counted {
     shape: Shape,
     functions: Vec<CountedFun>,

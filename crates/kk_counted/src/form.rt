@@ -3,7 +3,7 @@ use kk_syntax::Form;
 
 /// Steps in their order, and how the block ends.
 #[cycle(block)]
-#[derive(Debug, Drop)]
+#[derive(Drop)]
 pub struct Block {
     pub steps: Vec<Step>,
     pub last: Last,
@@ -11,7 +11,7 @@ pub struct Block {
 
 /// A step of a block.
 #[cycle(block)]
-#[derive(Debug, Drop)]
+#[derive(Drop)]
 pub enum Step {
     /// The variable takes the value of the form on the variables behind it: of a number or another form without
     /// arguments, an operator, a print, a construction, or a call that is no tail call.
@@ -35,7 +35,7 @@ pub enum Step {
 /// How a block ends. A block that is a step of another ends by giving its value to that step's variable, and has no
 /// tail call.
 #[cycle(block)]
-#[derive(Debug, Drop)]
+#[derive(Drop)]
 pub enum Last {
     /// By giving the value of a variable.
     Return(u32),

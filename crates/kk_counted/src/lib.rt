@@ -33,4 +33,5 @@ pub use law::{
 };
 pub use shape::{InstanceShape, Parameter, Shape};
 pub use token_emitter::TokenEmitter;
+pub use token_work::{filling_step, opening_step};
 pub use tokened::{Tokened, TokenedBlock, TokenedFun, TokenedLast, TokenedStep};

@@ -11,11 +11,12 @@ ghost use Rattle.kk_counted.specs.Works.{left_in};
 use crate::debts::{ArmEnd, Arms, Debts, Held, Kept, Owed, TokenArmEnd};
 use crate::token_emitter::TokenEmitter;
 use kk_core::Decisions;
+use std::mem;
 
 impl<'a> TokenEmitter<'a> {
     /// Begins a branch on a variable: an arm for each row of the decisions. Each arm owes all of the debts. All unspent tokens
     /// are among them.
-    pub fn split(&mut self, on: u32, tests: &Decisions, debts: Debts) -> Result<Arms, Kept>
+    pub fn split(&mut self, on: u32, tests: &Decisions, mut debts: Debts) -> Result<Arms, Kept>
         requires writes { Writes (counted_of self.old) }
         requires called { (counted_of self.old).failed ≡ false → (counted_of self.old).uncalled ≡ [] }
         requires owns { OwnsAll (counted_of self.old) debts.emitter debts.variables.items }
@@ -33,17 +34,8 @@ impl<'a> TokenEmitter<'a> {
             let _ = self.plain.fail();
             return Err(Kept::of_many(debts));
         };
-        let Debts {
-            emitter,
-            variables,
-            spare,
-        } = debts;
-        let references = Debts {
-            emitter,
-            variables,
-            spare: Vec::new(self.work.alloc),
-        };
-        match self.plain.split(on, tests, references) {
+        let spare = mem::replace(&mut debts.spare, Vec::new(self.work.alloc));
+        match self.plain.split(on, tests, debts) {
             Ok(arms) => Ok(arms.with_slots(given)),
             Err(kept) => {
                 let _ = self.plain.fail();

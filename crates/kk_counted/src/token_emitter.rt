@@ -19,7 +19,7 @@ use crate::debts::{Debts, Held, Kept, Owed, Spare};
 use crate::emitter::Emitter;
 use crate::lists::{chosen, numbers};
 use crate::shape::Shape;
-use crate::token_work::{TokenWork, filling, opening, reading};
+use crate::token_work::{TokenWork, filling_step, opening_step, reading};
 use crate::tokened::{TokenedBlock, TokenedFun, TokenedLast, TokenedStep};
 use kk_base::NoMemory;
 use kk_syntax::Form;
@@ -135,10 +135,7 @@ impl<'a> TokenEmitter<'a> {
         ensures going { OnOk result ((counted_of self.old).failed ≡ false) }
         ensures ok { OnOk result (counted_of self.new ≡ unpacked (counted_of self.old) false owed.variable constructor used) }
         ensures tokens { OnOk result (tokens_of self.new ≡ gains (tokens_of self.old) (opens_with false owed.variable constructor (fields_at (counted_of self.old) constructor) (fields_given (counted_of self.old) constructor used) (next_slot (tokens_of self.old).spare))) }
-        ensures debts { IfOk result (λ both. both.0.variables.items ≡ fields_given (counted_of self.old) constructor used) }
-        ensures emitter { IfOk result (λ both. both.0.emitter ≡ (counted_of self.old).instance) }
-        ensures alone { IfOk result (λ both. both.0.spare.items ≡ []) }
-        ensures spare { IfOk result (λ both. (both.1.emitter ≡ (counted_of self.old).instance) × (both.1.slot ≡ next_slot (tokens_of self.old).spare)) }
+        ensures given { IfOk result (λ both. GivesFields (counted_of self.old) (tokens_of self.old) constructor used both.0 both.1) }
         ensures err { OnErr result (counted_of self.new ≡ counted_of self.old) }
         ensures unwritten { OnErr result (tokens_of self.new ≡ tokens_of self.old) }
         ensures kept { IfErr result (λ kept. kept.held ≡ Held.One owed) }
@@ -160,10 +157,7 @@ impl<'a> TokenEmitter<'a> {
         ensures going { OnOk result ((counted_of self.old).failed ≡ false) }
         ensures ok { OnOk result (counted_of self.new ≡ unpacked (counted_of self.old) true owed.variable constructor used) }
         ensures tokens { OnOk result (tokens_of self.new ≡ gains (tokens_of self.old) (opens_with true owed.variable constructor (fields_at (counted_of self.old) constructor) (fields_given (counted_of self.old) constructor used) (next_slot (tokens_of self.old).spare))) }
-        ensures debts { IfOk result (λ both. both.0.variables.items ≡ fields_given (counted_of self.old) constructor used) }
-        ensures emitter { IfOk result (λ both. both.0.emitter ≡ (counted_of self.old).instance) }
-        ensures alone { IfOk result (λ both. both.0.spare.items ≡ []) }
-        ensures spare { IfOk result (λ both. (both.1.emitter ≡ (counted_of self.old).instance) × (both.1.slot ≡ next_slot (tokens_of self.old).spare)) }
+        ensures given { IfOk result (λ both. GivesFields (counted_of self.old) (tokens_of self.old) constructor used both.0 both.1) }
         ensures err { OnErr result (counted_of self.new ≡ counted_of self.old) }
         ensures unwritten { OnErr result (tokens_of self.new ≡ tokens_of self.old) }
         ensures kept { IfErr result (λ kept. kept.held ≡ Held.One owed) }
@@ -218,8 +212,9 @@ impl<'a> TokenEmitter<'a> {
         let alloc = self.work.alloc;
         let count = self.plain.field_count(constructor);
         let (fields, _) = numbers(alloc, self.plain.next_variable(), count)?;
+        let used = chosen(alloc, &fields, used)?;
         let slot = self.work.next_slot()?;
-        let step = opening(alloc, variable, constructor, fields, used, slot, by_count)?;
+        let step = opening_step(variable, constructor, fields, used, slot, by_count);
         Ok((step, slot))
     }
 
@@ -460,10 +455,7 @@ impl<'a> TokenEmitter<'a> {
     ) -> Result<Owed, Kept>
         requires writes { Writes (counted_of self.old) }
         requires has { HasSpare (counted_of self.old) (tokens_of self.old) spare.emitter spare.slot }
-        requires owns { OwnsAll (counted_of self.old) debts.emitter debts.variables.items }
-        requires fields { HasFields (counted_of self.old) constructor (length debts.variables.items) }
-        requires alone { debts.spare.items ≡ [] }
-        requires some { 0 < length debts.variables.items }
+        requires takes { TakesDebts (counted_of self.old) constructor debts }
         ensures going { OnOk result ((counted_of self.old).failed ≡ false) }
         ensures ok { OnOk result (counted_of self.new ≡ computed (counted_of self.old) (Form.Construct constructor) debts.variables.items debts.variables.items) }
         ensures tokens { OnOk result (tokens_of self.new ≡ spends (tokens_of self.old) (fills_with (counted_of self.old).next spare.slot constructor debts.variables.items [] (without (spare.slot ∷ []) (tokens_of self.old).spare)) spare.slot) }
@@ -487,10 +479,7 @@ impl<'a> TokenEmitter<'a> {
     ) -> Result<Owed, Kept>
         requires writes { Writes (counted_of self.old) }
         requires has { HasSpare (counted_of self.old) (tokens_of self.old) spare.emitter spare.slot }
-        requires owns { OwnsAll (counted_of self.old) debts.emitter debts.variables.items }
-        requires fields { HasFields (counted_of self.old) constructor (length debts.variables.items) }
-        requires alone { debts.spare.items ≡ [] }
-        requires some { 0 < length debts.variables.items }
+        requires takes { TakesDebts (counted_of self.old) constructor debts }
         requires known { HasKnown (counted_of self.old) (tokens_of self.old) spare.slot (kept_by keep (length debts.variables.items)) debts.variables.items }
         ensures going { OnOk result ((counted_of self.old).failed ≡ false) }
         ensures ok { OnOk result (counted_of self.new ≡ computed (counted_of self.old) (Form.Construct constructor) debts.variables.items debts.variables.items) }
@@ -562,7 +551,7 @@ impl<'a> TokenEmitter<'a> {
         let alloc = self.work.alloc;
         let variable = self.plain.next_variable();
         let others = self.work.others(slot)?;
-        filling(alloc, variable, slot, constructor, arguments, kept, others)
+        filling_step(alloc, variable, slot, constructor, arguments, kept, others)
     }
 
     /// Ends the function by a tail call of an instance. Its arguments at owned positions were handed over, and nothing else

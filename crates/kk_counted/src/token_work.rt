@@ -1,14 +1,14 @@
 ghost use Rattle.std.specs.Prelude.{◌≡◌, ◌+◌, ◌<◌, ◌≤◌, ◌∷◌, ◌++◌, [], Some, None, true, map, reverse, length, option_map, is_some, vec_len, vec_capacity, IfOk, IfErr, OnOk, OnErr};
 ghost use Rattle.kk_syntax.specs.Shapes.{without};
 ghost use Rattle.kk_counted.specs.CountedForms.{decisions_of};
-ghost use Rattle.kk_counted.specs.Drafts.{chosen_of, copies};
+ghost use Rattle.kk_counted.specs.Drafts.{copies};
 ghost use Rattle.kk_counted.specs.TokenDrafts.{token_draft, token_split_of, arm_of, next_slot, adds, gains, spends, under_holds, opens_with, reads_with, fills_with, tokens_forked, tokens_entered, tokens_ended_in, tokened_end, more_ended, tokens_joined, tokens_resumed, is_tokened_branch, tokened_branch_into, closed_moves, tokens_closed_by, tokens_closed};
 ghost use Rattle.kk_counted.specs.TokenedCodes.{Tokened};
 ghost use Rattle.kk_counted.specs.TokenedForms.{TokenedMove, tokened_move, tokened_last_code, tokened_code, plug_tokened};
 ghost use Rattle.kk_counted.specs.Works.{items_of};
 
 use crate::copies::copied_decisions;
-use crate::lists::{chosen, copies};
+use crate::lists::copies;
 use crate::token_joins::{block_of, blocks_of, case_of, joined_slots};
 use crate::tokened::{TokenedBlock, TokenedLast, TokenedStep};
 use kk_base::NoMemory;
@@ -290,28 +290,12 @@ pub fn next_slot(slots: &[u32]) -> Result<u32, NoMemory>
 }
 
 // A branch with one more arm.
-fn with_arm(fork: TokenFork, arm: TokenArm, tails: bool) -> Result<TokenFork, NoMemory>
+fn with_arm(mut fork: TokenFork, arm: TokenArm, tails: bool) -> Result<TokenFork, NoMemory>
     ensures { IfOk result (λ more. token_split_of more ≡ more_ended (token_split_of fork) (arm_of arm) tails) }
 {
-    let TokenFork {
-        on,
-        tests,
-        before,
-        each,
-        left,
-        mut arms,
-        tails: older,
-    } = fork;
-    arms.push(arm)?;
-    Ok(TokenFork {
-        on,
-        tests,
-        before,
-        each,
-        left,
-        arms,
-        tails: older || tails,
-    })
+    fork.arms.push(arm)?;
+    fork.tails = fork.tails || tails;
+    Ok(fork)
 }
 
 // The step that runs a block which is no more than its end.
@@ -390,36 +374,33 @@ fn is_branch(block: &TokenedBlock) -> bool
     }
 }
 
-/// The step that opens a cell, by its count or not, whose fields are the variables from a first one on. The mask names those
-/// that are used, and the token stands in the slot.
-pub fn opening(
-    alloc: Global,
+/// The step that opens a cell, by its count or not, of whose fields some are used. Its token stands in the slot.
+pub fn opening_step(
     variable: u32,
     constructor: u32,
     fields: Vec<u32>,
-    used: u8,
+    used: Vec<u32>,
     slot: u32,
     by_count: bool,
-) -> Result<TokenedStep, NoMemory>
-    ensures { IfOk result (λ step. tokened_move step ≡ opens_with by_count variable constructor fields.items (chosen_of used fields.items) slot) }
+) -> TokenedStep
+    ensures { tokened_move result ≡ opens_with by_count variable constructor fields.items used.items slot }
 {
-    let used = chosen(alloc, &fields, used)?;
     if by_count {
-        return Ok(TokenedStep::IfUnique {
+        return TokenedStep::IfUnique {
             variable,
             constructor,
             fields,
             used,
             slot,
-        });
+        };
     }
-    Ok(TokenedStep::Open {
+    TokenedStep::Open {
         variable,
         constructor,
         fields,
         used,
         slot,
-    })
+    }
 }
 
 /// The steps that read the fields of a cell, and then duplicate some of them.
@@ -445,7 +426,7 @@ pub fn reading(
 }
 
 /// The step that builds a cell, which has fields, in the cell of a token.
-pub fn filling(
+pub fn filling_step(
     alloc: Global,
     variable: u32,
     slot: u32,

@@ -503,31 +503,11 @@ fn run_of(alloc: Global, variable: u32, last: Last) -> Step
 }
 
 // A branch with one more arm.
-fn with_arm(fork: Fork, arm: Block, tails: bool) -> Fork
+fn with_arm(mut fork: Fork, arm: Block, tails: bool) -> Fork
     requires { vec_len fork.arms < vec_capacity fork.arms }
     ensures { split_of result ≡ more_arms (split_of fork) (block_code arm) tails }
 {
-    let Fork {
-        on,
-        tests,
-        before,
-        lent,
-        kept,
-        each,
-        left,
-        mut arms,
-        tails: older,
-    } = fork;
-    arms.push_reserved(arm);
-    Fork {
-        on,
-        tests,
-        before,
-        lent,
-        kept,
-        each,
-        left,
-        arms,
-        tails: older || tails,
-    }
+    fork.arms.push_reserved(arm);
+    fork.tails = fork.tails || tails;
+    fork
 }

@@ -10,6 +10,3 @@ fill-requires-clause-known c =
     let fields = fields_in (known_now (tokens_of c.args.self.now)) c.args.spare.slot in
     let arguments = c.args.debts.variables.items in
     λ going. subst (λ kept. KeepsKnown 0 kept fields arguments) (sym c.new.ensures.items) (keeps_none 0 fields arguments)
-
-pub fill-requires-clause-takes : goal.fill-requires-clause-takes
-fill-requires-clause-takes c = (c.requires.owns, (c.requires.fields, (c.requires.alone, c.requires.some)))
