@@ -1,12 +1,12 @@
 -- What is known of the tokens of a compiled program, so that it can be lowered with them.
-use Rattle.std.specs.Prelude.{◌≡◌, ℕ, ◌-◌, ◌*◌}
+use Rattle.std.specs.Prelude.{◌≡◌, ℕ, ◌+◌, ◌-◌, ◌*◌}
 use Rattle.kk_syntax.specs.declared.ground.Ground.{Ground}
 use Rattle.kk_syntax.specs.GroundPrograms.{ground_program}
 use Rattle.kk_syntax.specs.Shapes.{greatest_nodes}
 use Rattle.kk_counted.specs.BareForms.{bare_program}
 use Rattle.kk_counted.specs.FunctionSizes.{AllHaveSlotsBelow}
 use Rattle.kk_counted.specs.Programs.{program_of}
-use Rattle.kk_counted.specs.TokenCosts.{HasRoom}
+use Rattle.kk_counted.specs.TokenCosts.{quiet_cost, other_cost, HasRoom}
 use Rattle.kk_counted.specs.TokenLengths.{AreTokensShort}
 use Rattle.kk_counted.specs.TokenLowerable.{AreTokensLowerable}
 use Rattle.kk_counted.specs.TokenSpending.{AreTokensSpent}
@@ -20,10 +20,10 @@ use Rattle.kk_reuse.specs.Paired.{AllPaired}
 abbrev pub tokened_of : Tokened → Ground → TokenedProgram
 tokened_of made given = tokened_program made.functions.items given.texts.items
 
--- The room for tokens at each form but a dup and a drop: 36 for each cell that a function can open on a path. These are fewer than
--- the nodes of the greatest body of the instances.
+-- The room for tokens at each form but a dup and a drop: for each cell that a function can open on a path, that of a form more and
+-- of a token that a construction names besides. These cells are fewer than the nodes of the greatest body of the instances.
 abbrev pub token_room : Ground → ℕ
-token_room given = 36 * (greatest_nodes (ground_program given) - 1)
+token_room given = (quiet_cost + other_cost) * (greatest_nodes (ground_program given) - 1)
 
 -- Without its tokens it is its counted form. A function has fewer slots than the greatest body of the instances has nodes; its tokens
 -- are held at calls alone, and constructions leave only fields that are known to be their arguments. It spends each token once on each path, is paired, is short with its tokens, and
