@@ -256,7 +256,6 @@ module _ (known : Known) (o : CountOpening known) where
     pub whole : frame.whole ≡ s.frame.whole
     pub function : frame.function ≡ s.frame.function
     pub held : frame.held ≡ s.frame.held
-    pub into : frame.into ≡ s.frame.into
 
   -- from a jump behind the opening
   pub leaves : (frame : Frame Line) (world : World) → found (λ line. is_label behind line.action) frame.whole ≡ Some ending
@@ -384,7 +383,6 @@ module _ (known : Known) (o : CountOpening known) where
               whole = did.whole;
               function = did.function;
               held = did.held;
-              into = did.into;
             };
             words = stands.words;
             hand = did.aside at (ap is_aside here_at) ∙ here_at;
@@ -574,7 +572,6 @@ module _ (known : Known) (o : CountOpening known) where
             whole = did.whole;
             function = did.function;
             held = did.held;
-            into = did.into;
           },
           did.aside,
           did.was,

@@ -129,7 +129,7 @@ module _ (layout : Layout) (marks : CellMarks) (code : TokenedProgram) (constant
     is.spot.address,
     (
       is.spot.owners,
-      subst (λ heap. Follows pool layout is.spot.address is.spot.owners heap is.spot.world.cells) is.heap_is is.follows,
+      subst (λ heap. Follows pool layout is.spot.address is.spot.owners heap is.spot.world.cells) is.heap_is is.at.follows,
     ),
   )
 
@@ -274,7 +274,7 @@ module _ (layout : Layout) (marks : CellMarks) (code : TokenedProgram) (constant
       (copies_to (at.shape.variables + fills.y) fills.x ∷ acts (Jump at.does.placed.low) [] ∷ []) fills.after is.left no_part
       at.has.in_function fills.stands fills.left_is fills.place
       (has_cells_behind tokens_code environment inner c left_input at_turn is)
-      same (ap is_quiet (sym fills.code_is)) does
+      same (ap is_quiet (sym fills.fill.is)) does
       (λ m. subst (λ turn. state (lower low) m turn ≢ stuck) is.turn_is (never m)))
 
   -- so each turn that stands for a state at such a form
@@ -290,7 +290,7 @@ module _ (layout : Layout) (marks : CellMarks) (code : TokenedProgram) (constant
       (code_same (bare tokens_code) act own_environment environment _ joins same) loud does never
   at_control act environment joins (TokenControl.running tokens_code own_environment inner) c left_input at_turn (inr behind) same
       loud does never =
-      by behind.near (code_same (bare tokens_code) act own_environment environment _ joins same)
+      by behind.at.near (code_same (bare tokens_code) act own_environment environment _ joins same)
     where
       by : IsBehind (lowering layout marks code constants functions lowered room fits_room pool depth first input aligned some bytes
           fits) tokens_code inner c.frames c.tokens left_input behind.spot behind.fs behind.left

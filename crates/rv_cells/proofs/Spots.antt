@@ -54,8 +54,8 @@ pub record Here (known : Known) (s : Spot) : Type 0 where
 abbrev pub saved : Heap → ℕ
 saved heap = 52 * busy heap + 8 * weight heap
 
--- Lines lead from a spot to another, at this cost beyond what was saved. What is set aside stays so. Of the frame only values
--- change: those of variables that become bound, and temporaries.
+-- Lines lead from a spot to another, at this cost beyond what was saved. What is set aside stays so. The frame is in the same
+-- function and holds the same tokens, and of its values only these change: those of variables that become bound, and temporaries.
 pub record Did (known : Known) (most : ℕ) (lines rest : List Line) (fs : List (Frame Line)) (s t : Spot) : Type 0 where
   pub cost : ℕ
   pub steps : ℕ
@@ -67,11 +67,9 @@ pub record Did (known : Known) (most : ℕ) (lines rest : List Line) (fs : List 
   pub grown : (z : ℕ) → is_among t.bound z ≡ false → is_among s.bound z ≡ false
   pub spared : (z : ℕ) → z < known.base → is_among t.bound z ≡ false → t.frame.cells z ≡ s.frame.cells z
   pub left : t.world.left ≡ s.world.left
-  pub trace : t.world.trace ≡ s.world.trace
   pub whole : t.frame.whole ≡ s.frame.whole
   pub function : t.frame.function ≡ s.frame.function
   pub held : t.frame.held ≡ s.frame.held
-  pub into : t.frame.into ≡ s.frame.into
 
 -- Lines lead so where of the world they change the cells alone, and of the frame values alone.
 pub did_here : (known : Known) (most : ℕ) (lines rest : List Line) (fs : List (Frame Line)) (s t : Spot) (cost steps : ℕ)
@@ -94,11 +92,9 @@ did_here known most lines rest fs s t cost steps within runs here world_is frame
   grown = grown;
   spared = spared;
   left = ap (λ (w : World). w.left) world_is;
-  trace = ap (λ (w : World). w.trace) world_is;
   whole = ap (λ (f : Frame Line). f.whole) frame_is;
   function = ap (λ (f : Frame Line). f.function) frame_is;
   held = ap (λ (f : Frame Line). f.held) frame_is;
-  into = ap (λ (f : Frame Line). f.into) frame_is;
 }
 
 did_idle : (known : Known) (most : ℕ) (rest : List Line) (fs : List (Frame Line)) (s : Spot) → Here known s
@@ -131,11 +127,9 @@ did_then known most others lines more rest fs s t u first second =
       grown = λ z none. first.grown z (second.grown z none);
       spared = λ z low none. second.spared z low none ∙ first.spared z low (second.grown z none);
       left = second.left ∙ first.left;
-      trace = second.trace ∙ first.trace;
       whole = second.whole ∙ first.whole;
       function = second.function ∙ first.function;
       held = second.held ∙ first.held;
-      into = second.into ∙ first.into;
     }
 
 -- the same cells are set aside
