@@ -35,6 +35,7 @@ use Rattle.rv_lower.specs.Lines.{copies_to, acts}
 use Rattle.rv_isa.specs.AsmMachine.{AsmState, AsmTurn}
 use Rattle.rv_isa.specs.LinePlaces.{AsmIsAt}
 use Rattle.rv_isa.specs.Primitives.{go, stuck}
+use Rattle.rv_isa.specs.Numbers.{cell_size}
 use Rattle.cell_runtime.specs.World.{World}
 use Rattle.rv_cells.specs.Fitting.{IsFit}
 use Rattle.rv_cells.specs.CountedCells.{Owner, Follows}
@@ -82,7 +83,7 @@ no_act program environment x arms (Tokened.if_token y there absent) ahead is = a
 module _ (layout : Layout) (marks : CellMarks) (code : TokenedProgram) (constants : List (List ℕ)) (functions : List Lines)
     (lowered : IsTokenedLowered layout marks code constants functions)
     (lowerable : AreLowerable marks (bare_program code).functions) (main_first : code.main ≡ 0) (room : ℕ)
-    (fits_room : HasRoom room code) (pool : Pool) (depth first : ℕ) (input : List ℕ) (aligned : pool.first % 32 ≡ 0)
+    (fits_room : HasRoom room code) (pool : Pool) (depth first : ℕ) (input : List ℕ) (aligned : pool.first % cell_size ≡ 0)
     (some : 0 < pool.first) (bytes : All (λ byte. byte < 256) input)
     (fits : (n : ℕ) → IsFit layout (counted_after (roomy_cost room) (setting_on (bare_program code) pool depth) input n)) where
   abbrev low : Lowering

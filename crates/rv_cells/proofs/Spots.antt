@@ -13,8 +13,10 @@ use Rattle.rv_isa.specs.declared.routine.Routine.TheVariants.{Drop}
 use Rattle.rv_lower.specs.Lines.{copies_to, acts}
 use Rattle.rv_isa.specs.AsmCode.{Line}
 use Rattle.rv_isa.specs.Frames.{Frame}
+use Rattle.rv_isa.specs.Numbers.{cell_size}
 use Rattle.cell_heap.specs.Blocks.{Cells, merged_cells}
 use Rattle.cell_runtime.specs.World.{World, with_cells}
+use Rattle.cell_runtime.specs.Drops.{given_cost, freed_cost, most_drop_cost}
 use Rattle.rv_cells.specs.Layout.{Layout, IsNarrow, word_in, FitsField}
 use Rattle.rv_cells.specs.CountedCells.{Owner, nobody, cell_of, in_hand, kept_aside, Follows, still, still_count, is_aside}
 use Rattle.rv_cells.specs.CellLines.{dup_lines, drop_lines}
@@ -43,7 +45,7 @@ pub record Known : Type 0 where
   pub layout : Layout
   pub holds : ℕ → Bool
   pub base : ℕ
-  pub aligned : target.pool.first % 32 ≡ 0
+  pub aligned : target.pool.first % cell_size ≡ 0
   pub narrow : IsNarrow layout
 
 pub record Here (known : Known) (s : Spot) : Type 0 where
@@ -52,7 +54,7 @@ pub record Here (known : Known) (s : Spot) : Type 0 where
 
 -- what a heap has saved for drops
 abbrev pub saved : Heap → ℕ
-saved heap = 52 * busy heap + 8 * weight heap
+saved heap = freed_cost * busy heap + given_cost * weight heap
 
 -- Lines lead from a spot to another, at this cost beyond what was saved. What is set aside stays so. The frame is in the same
 -- function and holds the same tokens, and of its values only these change: those of variables that become bound, and temporaries.
@@ -319,8 +321,8 @@ module _ (known : Known) (rest : List Line) (fs : List (Frame Line)) (s : Spot) 
         merged_cells done.work s.world.cells,
         did_here known (2 * most_moves + 16) (copies_to x known.base ∷ acts (Calls Drop) (known.base ∷ []) ∷ []) rest fs s
             (record (with_heap s next (λ at. still next (s.owners at)) (merged_cells done.work s.world.cells)) { frame = copied })
-            ((most_moves + 2) + (8 * done.work.gave + 52 * done.work.freed + 8)) 2 (omega arith)
-            (runs_then known.target (most_moves + 2) (8 * done.work.gave + 52 * done.work.freed + 8) 1 1
+            ((most_moves + 2) + (most_drop_cost done.work.gave done.work.freed + (most_moves + 1))) 2 (omega arith)
+            (runs_then known.target (most_moves + 2) (most_drop_cost done.work.gave done.work.freed + (most_moves + 1)) 1 1
             (turn_of (copies_to x known.base ∷ acts (Calls Drop) (known.base ∷ []) ∷ rest) s.frame fs s.world)
             (turn_of (acts (Calls Drop) (known.base ∷ []) ∷ rest) copied fs s.world)
             (turn_of rest copied fs (with_cells s.world (merged_cells done.work s.world.cells))) first second)

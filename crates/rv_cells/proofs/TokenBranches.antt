@@ -51,7 +51,7 @@ use Rattle.rv_cells.proofs.Comparisons.{drops_keep, drops_forms, IsJoined, joine
 use Rattle.rv_cells.proofs.FormPlaces.{Tree, tree, IsPart, StandsAt, arms_in, tree_behind, tree_in, stands_behind}
 use Rattle.rv_cells.proofs.FormPlaces.{stands_behind_three}
 use Rattle.rv_cells.proofs.FormWords.{number_word}
-use Rattle.rv_cells.proofs.LineCosts.{most_moves}
+use Rattle.rv_cells.proofs.LineCosts.{most_moves, leading_cost}
 use Rattle.rv_cells.proofs.UnnamedVariables.{first_spared, marked_without, numbered_fewer, drops_or_not}
 use Rattle.rv_cells.proofs.Runs.{turn_of, Runs, runs_none, runs_then, runs_within}
 use Rattle.rv_cells.proofs.Spots.{Spot, saved}
@@ -208,7 +208,8 @@ module _ (program : Lowering) where
       let t0 = turn_of left s.frame fs s.world in
       let t1 = turn_of come.there s.frame fs s.world in
       does_by program idle start end [] t0 (ap (λ action. seen_action program action input) step) fit
-      (λ later. by_near program come.steps 8 ((upper program).weight start) (saved s.heap) idle end t0 t1 come.runs (omega arith)
+      (λ later. by_near program come.steps leading_cost ((upper program).weight start) (saved s.heap) idle end t0 t1 come.runs
+      (omega arith)
       (omega (arith, few, idle_is)) later (reached body inner frames tokens input s fs come.there holds come.stands))
 
   -- so is each step on the way to it
@@ -438,9 +439,9 @@ module _ (program : Lowering) (x : ℕ) (operator : BinaryOperator) (a b : ℕ) 
     -- from the label the arm comes
     arm_runs : Runs (target program) (most_moves + 3) 1 (turn_of left s.frame fs s.world)
         (turn_of (label ∷ behind) s.frame fs s.world)
-        → Runs (target program) 8 2 (turn_of left s.frame fs s.world) (turn_of behind s.frame fs s.world)
+        → Runs (target program) leading_cost 2 (turn_of left s.frame fs s.world) (turn_of behind s.frame fs s.world)
     arm_runs runs =
-        runs_within (target program) ((most_moves + 3) + (most_moves + 0)) 8 2 (turn_of left s.frame fs s.world)
+        runs_within (target program) ((most_moves + 3) + (most_moves + 0)) leading_cost 2 (turn_of left s.frame fs s.world)
         (turn_of behind s.frame fs s.world) (omega arith)
         (runs_then (target program) (most_moves + 3) (most_moves + 0) 1 1 (turn_of left s.frame fs s.world)
         (turn_of (label ∷ behind) s.frame fs s.world) (turn_of behind s.frame fs s.world) runs

@@ -11,7 +11,7 @@ use Rattle.kk_syntax.specs.declared.program.Form.TheVariants.{Number, Unit as No
 use Rattle.kk_syntax.specs.declared.program.Form.TheVariants.{Unary, Binary, Print, Construct, Call}
 use Rattle.kk_syntax.specs.Shapes.{is_among, without}
 use Rattle.kk_core.specs.Decisions.{NodeTree, chooses}
-use Rattle.kk_core.specs.Sizes.{AreBound}
+use Rattle.kk_core.specs.Sizes.{AreBound, most_parameters}
 use Rattle.kk_counted.specs.Arms.{HasArms, HaveArms, arm_count}
 use Rattle.kk_counted.specs.BareForms.{bare, bare_arms}
 use Rattle.kk_counted.specs.CountBounds.{EachHasAnArm, AllHaveAnArm}
@@ -113,7 +113,7 @@ held_behind held x (Construct c) arguments others rest is = subst (λ (h : List 
 held_behind held x (Call f) arguments others rest is = is
 
 module _ (layout : Layout) (holds : ℕ → Bool) (texts : Texts) (standing : Standing) (marks : CellMarks) (result : Bool)
-    (variables slots : ℕ) (room : (variables + slots) + 8 ≤ most_values) where
+    (variables slots : ℕ) (room : (variables + slots) + most_parameters ≤ most_values) where
   abbrev setting : Setting
   setting = record { layout = layout; holds = holds; base = variables + slots; texts = texts; standing = standing }
 

@@ -36,6 +36,7 @@ use Rattle.rv_cells.proofs.CallLines.{among_numbers}
 use Rattle.rv_cells.proofs.TokenFormedCodes.{code_fits}
 use Rattle.rv_cells.proofs.TokenFormedHeld.{fits_held}
 use Rattle.rv_cells.proofs.TokenFormedSlots.{read_below, read_within, room_read}
+use Rattle.kk_core.specs.Sizes.{most_parameters}
 
 -- a function that can be lowered, and is so
 module _ (layout : Layout) (texts : Texts) (table : CellMarks) (f : ℕ) (function : TokenedFunction) (lines : Lines)
@@ -57,7 +58,7 @@ module _ (layout : Layout) (texts : Texts) (table : CellMarks) (f : ℕ) (functi
   among_parameters : (v : ℕ) → is_bound parameters v ≡ true → v < function.parameters
   among_parameters v among = let at = among_numbers 0 function.parameters v among in omega (arith, at.1, at.2)
 
-  room : base + 8 ≤ most_values
+  room : base + most_parameters ≤ most_values
   room = let low = is.low in omega (arith, low)
 
   has : HasRoom variables parameters

@@ -28,6 +28,7 @@ use Rattle.rv_lower.proofs.Operations.{only_bound, copied}
 use Rattle.rv_lower.proofs.Codes.{Ahead, Fits}
 use Rattle.rv_cells.specs.CellLines.{drop_lines, hold_lines, unhold_lines}
 use Rattle.rv_cells.proofs.CellForms.{take_formed}
+use Rattle.kk_core.specs.Sizes.{most_parameters}
 
 -- well-formed code, before which the tokens of these values are held, the newest first, and only certain values are alive
 pub record Holding (held : List ℕ) (B : ℕ → Type 0) (code : List Line) : Type 0 where
@@ -137,7 +138,8 @@ module _ (variables base : ℕ) (bound : List ℕ) (has : HasRoom base bound) (h
         copy_left x at less le held all.1,
       )
 
-  holding_copies : (limit last : ℕ) (xs : List ℕ) (rest : List Line) → base ≤ limit → limit + length xs ≡ last → last ≤ base + 8
+  holding_copies : (limit last : ℕ) (xs : List ℕ) (rest : List Line) → base ≤ limit → limit + length xs ≡ last
+      → last ≤ base + most_parameters
       → AllBound bound xs → Each (λ x. x < variables) xs → Holding held (Readable base last bound) rest
       → Holding held (Readable base limit bound) (copies limit xs ++ rest)
   holding_copies limit last [] rest above is le all small more =

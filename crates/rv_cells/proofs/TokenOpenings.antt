@@ -14,7 +14,7 @@ use Rattle.cell_heap.specs.Blocks.{Cells}
 use Rattle.cell_runtime.specs.World.{World, with_cells}
 use Rattle.rv_lower.specs.Lines.{sets, copies_to, acts}
 use Rattle.rv_lower.proofs.FormEffects.{put_same, put_other}
-use Rattle.rv_cells.specs.Layout.{words_in, header_of}
+use Rattle.rv_cells.specs.Layout.{words_in, header_of, first_field}
 use Rattle.rv_cells.specs.CountedCells.{AreFrom, Owner, in_hand, is_aside}
 use Rattle.rv_cells.specs.CellLines.{token_ends, TokenUniqueLines}
 use Rattle.rv_cells.proofs.Runs.{turn_of, Runs, runs_none, runs_then}
@@ -36,7 +36,7 @@ pub record HasCell (s t : Spot) (token at : ℕ) (fields : List ℕ) (header : �
   pub hand : t.owners at ≡ in_hand words
   pub count_is : words 0 ≡ Some 1
   pub header_is : words 1 ≡ Some header
-  pub fields_are : AreFrom words 2 fields
+  pub fields_are : AreFrom words first_field fields
   pub aside : (y : ℕ) → y ≢ at → is_aside (s.owners y) ≡ true → t.owners y ≡ s.owners y
   pub was : (y : ℕ) → y ≢ at → is_aside (t.owners y) ≡ true → t.owners y ≡ s.owners y
 

@@ -30,6 +30,7 @@ use Rattle.rv_isa.specs.AsmMachine.{AsmTurn}
 use Rattle.rv_isa.specs.Frames.{Frame}
 use Rattle.rv_isa.specs.Primitives.{ended, stuck as stuck_turn}
 use Rattle.rv_isa.specs.WellFormed.{AreLinesFormed}
+use Rattle.rv_isa.specs.Numbers.{cell_size}
 use Rattle.cell_heap.specs.Pool.{Pool}
 use Rattle.cell_runtime.specs.World.{World}
 use Rattle.rv_lower.specs.Lines.{Texts, copies_to, acts}
@@ -37,7 +38,7 @@ use Rattle.rv_lower.specs.Lowered.{Goal, returns, joins}
 use Rattle.rv_lower.proofs.Labels.{found_label, label_found}
 use Rattle.rv_cells.specs.declared.standing.Standing.{Standing}
 use Rattle.rv_cells.specs.declared.standing.Standing.TheVariants.{Nothing, Count, Cell}
-use Rattle.rv_cells.specs.Layout.{Layout, IsNarrow, words_in, header_of, FitsField}
+use Rattle.rv_cells.specs.Layout.{Layout, IsNarrow, words_in, header_of, FitsField, first_field}
 use Rattle.rv_cells.specs.CountedCells.{AreFrom, Owner, in_hand, kept_aside, Follows, NoneAside, set_aside}
 use Rattle.rv_cells.specs.CountedLines.{Setting}
 use Rattle.rv_cells.specs.TokenedLines.{CodeLines, HasSlots, Keeps, IsFunctionOf, AreFunctionsOf}
@@ -48,6 +49,7 @@ use Rattle.rv_cells.proofs.TokenLineCosts.{forms}
 use Rattle.rv_cells.proofs.Values.{HasValues}
 use Rattle.rv_cells.proofs.Runs.{Target, turn_of, Runs, machine}
 use Rattle.rv_cells.proofs.Spots.{Spot, Known, saved}
+use Rattle.rv_cells.proofs.LineCosts.{leading_cost}
 
 -- A turn at a spot that has this environment and this heap, where something holds of the spot, its older frames and the lines that
 -- are left.
@@ -79,7 +81,7 @@ pub record Lowering : Type 0 where
   pub pool : Pool
   pub depth : ℕ
   pub most : ℕ
-  pub aligned : pool.first % 32 ≡ 0
+  pub aligned : pool.first % cell_size ≡ 0
   pub some : 0 < pool.first
   pub narrow : IsNarrow layout
   pub fields_are : (c : ℕ) → layout.fields c ≡ field_marks marks c
@@ -111,8 +113,8 @@ held_values slots variables (y ∷ ys) =
 
 -- The cell of a token is held where its slot is linked, else it is in hand. Its fields have these words.
 abbrev pub IsTokenCell : Bool → List ℕ → Owner → Type 0
-IsTokenCell true ws owner = (words : ℕ → Option ℕ) × (owner ≡ kept_aside words) × AreFrom words 2 ws
-IsTokenCell false ws owner = (words : ℕ → Option ℕ) × (owner ≡ in_hand words) × AreFrom words 2 ws
+IsTokenCell true ws owner = (words : ℕ → Option ℕ) × (owner ≡ kept_aside words) × AreFrom words first_field ws
+IsTokenCell false ws owner = (words : ℕ → Option ℕ) × (owner ≡ in_hand words) × AreFrom words first_field ws
 
 -- the words of the fields that a name has
 abbrev pub token_words : Layout → (ℕ → ℕ) → Heap → ℕ → List ℕ
@@ -377,7 +379,7 @@ module _ (program : Lowering) where
       (s : Spot) (fs : List (Frame Line)) (left : List Line) : Type 0 where
     pub there : List Line
     pub steps : ℕ
-    pub runs : Runs target 8 steps (turn_of left s.frame fs s.world) (turn_of there s.frame fs s.world)
+    pub runs : Runs target leading_cost steps (turn_of left s.frame fs s.world) (turn_of there s.frame fs s.world)
     pub stands : At code inner frames tokens input s fs there ⊎ GivesUp code inner frames tokens input s fs there
 
   -- behind values that are no cells and are given up, a case on the truth of a variable comes

@@ -38,7 +38,7 @@ use Rattle.rv_isa.specs.Frames.{Frame}
 use Rattle.cell_heap.specs.Blocks.{Cells}
 use Rattle.rv_lower.specs.Lines.{sets, copies_to, acts}
 use Rattle.rv_cells.specs.CellLines.{drops_lines, token_ends, TokenUniqueLines}
-use Rattle.rv_cells.specs.Layout.{words_in, header_of}
+use Rattle.rv_cells.specs.Layout.{words_in, header_of, first_field}
 use Rattle.rv_cells.specs.CountedCells.{AreFrom, Owner, cell_of, in_hand, is_aside}
 use Rattle.rv_cells.specs.TokenedLines.{CodeLines, OpeningLines, HasSlots, IsOf, Keeps, MayFill}
 use Rattle.rv_cells.proofs.NameContents.{some-is}
@@ -614,7 +614,7 @@ module _ (program : Lowering) (code : Tokened) (x c : ℕ) (fields used : List �
           (sym free_slot) (
             has.words,
             has.hand,
-            subst (AreFrom has.words 2) (ap (words_in program.layout s.address) (sym fields_are)) has.fields_are,
+            subst (AreFrom has.words first_field) (ap (words_in program.layout s.address) (sym fields_are)) has.fields_are,
           ))
           (ap is_aside owns)
           (λ z linked ws differ is. subst (IsTokenCell linked ws)

@@ -16,6 +16,7 @@ use Rattle.kk_counted.specs.declared.shape.Shape.{Shape}
 use Rattle.rv_isa.specs.AsmCode.{Lines}
 use Rattle.rv_isa.specs.Costs.{functions_length}
 use Rattle.rv_isa.specs.ValueBounds.{HaveValuesBelow}
+use Rattle.rv_isa.specs.Numbers.{cell_size}
 use Rattle.cell_heap.specs.Pool.{Pool}
 use Rattle.cell_runtime.specs.Operations.{all_bytes}
 use Rattle.rv_lower.specs.Written.{most_print}
@@ -27,26 +28,28 @@ use Rattle.rv_cells.specs.Tables.{table_of, layout_in}
 use Rattle.rv_cells.specs.TokenedFunctions.{most_values_of}
 use Rattle.rv_cells.specs.TokenedLowered.{IsTokenedForm}
 use Rattle.rv_cells.specs.TokenedMeaning.{IsTokenedLowered, TokenedRunsTheSame}
+use Rattle.kk_core.specs.CodeNodes.{string_words}
+use Rattle.kk_core.specs.Sizes.{most_parameters}
 
 -- the law that assembler code does what a program with tokens does, with room for these
 abbrev pub RunTheSame : Type 0
 RunTheSame =
     (layout : Layout) (marks : CellMarks) (code : TokenedProgram) (constants : List (List ℕ)) (functions : List Lines)
     → (lowered : IsTokenedLowered layout marks code constants functions) → (room : ℕ) → HasRoom room code
-    → (pool : Pool) (depth first : ℕ) (input : List ℕ) → pool.first % 32 ≡ 0 → 0 < pool.first
+    → (pool : Pool) (depth first : ℕ) (input : List ℕ) → pool.first % cell_size ≡ 0 → 0 < pool.first
     → All (λ byte. byte < 256) input
     → ((n : ℕ) → IsFit layout (counted_after (roomy_cost room) (setting_on (bare_program code) pool depth) input n))
     → TokenedRunsTheSame code room constants functions lowered.main_lines pool depth first input
 
--- the law that each form has lines of its own in assembler code, to which that code comes where the program is at the form, and that
--- its cells follow the counted heap
+-- the law that each form has lines of its own in assembler code, to which that code comes where the program is at the form, and
+-- that its cells follow the counted heap
 abbrev pub ComeToTheirLines : Type 0
 ComeToTheirLines =
     (layout : Layout) (marks : CellMarks) (code : TokenedProgram) (constants : List (List ℕ)) (functions : List Lines)
     → (lowered : IsTokenedLowered layout marks code constants functions)
     → AreLowerable marks (bare_program code).functions → code.main ≡ 0
     → (own : HaveOwnLines (bare_program code) functions) × ((room : ℕ) → HasRoom room code
-    → (pool : Pool) (depth first : ℕ) (input : List ℕ) → pool.first % 32 ≡ 0 → 0 < pool.first
+    → (pool : Pool) (depth first : ℕ) (input : List ℕ) → pool.first % cell_size ≡ 0 → 0 < pool.first
     → All (λ byte. byte < 256) input
     → ((n : ℕ) → IsFit layout (counted_after (roomy_cost room) (setting_on (bare_program code) pool depth) input n))
     → ComesToItsLines layout (bare_program code) room constants functions lowered.main_lines pool depth first input own
@@ -77,8 +80,8 @@ TakeFewWords =
     (shape : Shape) (code : TokenedProgram) (texts : List (List ℕ)) (each : List Lines)
     → AreLowerable (table_of shape) (bare_program code).functions → AreTokensLowerable code.functions → AreTokensSpent code
     → IsTokenedForm shape code.texts code.functions each texts → IsNarrow (layout_in shape)
-    → (functions_length each + 64 * all_tokened_prints code.functions
-    ≤ 8 * length code.functions + all_tokened_words code.functions)
+    → (functions_length each + string_words * all_tokened_prints code.functions
+    ≤ most_parameters * length code.functions + all_tokened_words code.functions)
     × (length (all_bytes texts) ≤ most_print * all_tokened_prints code.functions)
 
 -- the law that the assembler code of a program with tokens names no more values than its variables, its slots and its temporaries

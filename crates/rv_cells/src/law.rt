@@ -23,10 +23,11 @@ ghost use Rattle.rv_cells.specs.CountedCells.{IsBlockOf, Owner, nobody, cell_of,
 ghost use Rattle.rv_cells.specs.Fitting.{AreTagged, count_of_fields, IsFit};
 ghost use Rattle.rv_cells.specs.Steps.{Served, ServedByHeld, PutAside, TakenBack, Dupped, Dropped, IsPaid, Released};
 ghost use Rattle.kk_counted.specs.CountLimits.{greatest_spent};
+ghost use Rattle.rv_isa.specs.Numbers.{cell_size};
 
 /// At the start the cells of a pool hold the empty heap. It is a law, and does nothing.
 pub fn unused_cells_hold_no_heap()
-    ensures { (pool : Pool) (layout : Layout) (address : ℕ → ℕ) → pool.first % 32 ≡ 0
+    ensures { (pool : Pool) (layout : Layout) (address : ℕ → ℕ) → pool.first % cell_size ≡ 0
         → Follows pool layout address (λ at. nobody) [] (unused_cells pool) }
 {}
 
@@ -34,22 +35,23 @@ pub fn unused_cells_hold_no_heap()
 /// token that it names, and where it names none the heap is full. It is a law, and does nothing.
 pub fn requests_find_free_cells()
     ensures served { (pool : Pool) (layout : Layout) (address : ℕ → ℕ) (owners : ℕ → Owner) (heap : Heap) (cells : Cells)
-        → pool.first % 32 ≡ 0 → Follows pool layout address owners heap cells
+        → pool.first % cell_size ≡ 0 → Follows pool layout address owners heap cells
         → (top : Option ℕ) → busy heap + set_aside pool owners < pool.cells
         → Served pool layout address owners heap cells top }
     ensures from_held { (pool : Pool) (layout : Layout) (address : ℕ → ℕ) (owners : ℕ → Owner) (heap : Heap) (cells : Cells)
-        → pool.first % 32 ≡ 0 → Follows pool layout address owners heap cells
+        → pool.first % cell_size ≡ 0 → Follows pool layout address owners heap cells
         → (at : ℕ) (words : ℕ → Option ℕ) → owners at ≡ kept_aside words → pool.cells ≤ busy heap + set_aside pool owners
         → ServedByHeld pool layout address owners heap cells at }
     ensures full { (pool : Pool) (layout : Layout) (address : ℕ → ℕ) (owners : ℕ → Owner) (heap : Heap) (cells : Cells)
-        → pool.first % 32 ≡ 0 → Follows pool layout address owners heap cells
+        → pool.first % cell_size ≡ 0 → Follows pool layout address owners heap cells
         → pool.cells ≤ busy heap + set_aside pool owners → request pool None cells ≡ None }
 {}
 
 /// The cells that are counted and those that are set aside are together no more than there are. It is a law, and does nothing.
 pub fn cells_are_counted_or_set_aside()
     ensures { (pool : Pool) (layout : Layout) (address : ℕ → ℕ) (owners : ℕ → Owner) (heap : Heap) (cells : Cells)
-        → pool.first % 32 ≡ 0 → Follows pool layout address owners heap cells → busy heap + set_aside pool owners ≤ pool.cells }
+        → pool.first % cell_size ≡ 0 → Follows pool layout address owners heap cells
+        → busy heap + set_aside pool owners ≤ pool.cells }
 {}
 
 /// A cell in hand is put on the chain of held tokens, and taken back. It is a law, and does nothing.
@@ -95,7 +97,7 @@ pub fn references_are_duplicated()
 /// law, and does nothing.
 pub fn references_are_dropped()
     ensures { (pool : Pool) (layout : Layout) (address : ℕ → ℕ) (owners : ℕ → Owner) (heap next : Heap) (cells : Cells) (v : Value)
-        → pool.first % 32 ≡ 0 → IsNarrow layout → Follows pool layout address owners heap cells
+        → pool.first % cell_size ≡ 0 → IsNarrow layout → Follows pool layout address owners heap cells
         → FitsField true v → drop_value v heap ≡ Some next
         → (dropped : Dropped pool layout address owners heap next cells v) × IsPaid heap next dropped.work }
 {}
