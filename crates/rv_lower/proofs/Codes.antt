@@ -15,7 +15,7 @@ use Rattle.rv_isa.specs.WellFormed.{is_alive, is_alive_at, most_values, IsSpent,
 use Rattle.rv_isa.proofs.HeldTokens.{HoldsNone}
 use Rattle.rv_lower.specs.Lines.{acts, copies, temporaries}
 use Rattle.rv_lower.specs.Lowered.{Goal, returns, joins, goal_lines}
-use Rattle.rv_lower.proofs.WellFormedness.{Each, all_each, AllBound, none_some, Readable, IsWithin, within_more, readable_within}
+use Rattle.rv_lower.proofs.WellFormedness.{Each, all_each, AllBound, formed_effect, none_some, Readable, IsWithin, within_more, readable_within}
 use Rattle.rv_lower.proofs.WellFormedness.{AreFormed, formed_more, Good, HasRoom, weaker, alive_line, to_variable, good_hands, readable_small}
 use Rattle.rv_lower.proofs.AbsentLabels.{HasNo, has_no_append, found_none, found_past, found_here, alive_at_past, alive_at_here, other_label}
 use Rattle.rv_lower.proofs.Labels.{found_label}
@@ -192,15 +192,7 @@ pub good_branch : (B C : ℕ → Type 0) (condition : Condition) (label : ℕ) (
     → StandsAhead C label rest → Good C rest → Good B (acts (Branch condition label) args ∷ rest)
 good_branch B C condition label args rest few each into small ahead good = record {
   formed = formed_more (acts (Branch condition label) args) rest
-      (record {
-        labels = ahead.0;
-        few = few;
-        gives = λ is. absurd (false≢true is);
-        distinct = λ is. absurd (false≢true is);
-        spent = λ is. absurd (false≢true is);
-        args_small = all_each B (λ v. v < most_values) args small each;
-        into_small = λ v is. absurd (none_some is);
-      })
+      (formed_effect (Branch condition label) args rest ahead.0 few refl (all_each B (λ v. v < most_values) args small each))
       tt good.formed;
   alive = alive_line B (acts (Branch condition label) args) rest each (λ v other is. into v (behind v is));
 }

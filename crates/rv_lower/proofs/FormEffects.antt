@@ -38,7 +38,7 @@ use Rattle.rv_lower.specs.Lines.{computes, sets, copies_to, acts, registers, uni
 use Rattle.rv_lower.proofs.Words.{truth_word, divided, sum_follows, difference_follows, product_follows, negation_follows, quotient_follows, remainder_follows, remainder_fits, sum_fits, difference_fits, product_fits, truth_follows, not_follows, opposite_follows, equal_follows, unequal_follows, at_most_follows}
 use Rattle.rv_lower.proofs.PrintCosts.{int_printed, few_steps_of, text_found}
 use Rattle.rv_lower.proofs.WordValues.{Function, IsWordOf, frame_at, turn_at}
-use Rattle.rv_lower.proofs.Runs.{Target, word_cost, print_cost, most_cost}
+use Rattle.rv_lower.proofs.Runs.{Target, line_cost, word_cost, print_cost, most_cost}
 use Rattle.rv_lower.proofs.Runs as Runs
 
 -- ---- cells
@@ -69,7 +69,7 @@ module _ (target : Target) where
   changes_none cells = λ whole rest into fs world. Runs.runs_none target (turn_at whole rest cells into fs world)
 
   pub changes_one : (n : ℕ) (operation : AsmOperation) (args : List ℕ) (x : ℕ) (own : List Line) (cells cells' : ℕ → Option ℕ) (words : List ℕ) (word : ℕ)
-      → 2 * length args + operation_instructions operation ≤ 5 → all_of (map cells args) ≡ Some words → computed target.constants operation words ≡ Some word → Changes n own (put x (Some word) cells) cells' → Changes (suc n) (computes operation args x ∷ own) cells cells'
+      → 2 * length args + operation_instructions operation ≤ line_cost → all_of (map cells args) ≡ Some words → computed target.constants operation words ≡ Some word → Changes n own (put x (Some word) cells) cells' → Changes (suc n) (computes operation args x ∷ own) cells cells'
   changes_one n operation args x own cells cells' words word two words_are computed_is later = λ whole rest into fs world.
       Runs.runs_cheap target (word_cost + n * word_cost) (suc n * word_cost) (suc n) [] (turn_at whole (computes operation args x ∷ (own ++ rest)) cells into fs world) (turn_at whole rest cells' into fs world) (omega arith)
       (Runs.runs_on target word_cost (n * word_cost) n [] [] (turn_at whole (computes operation args x ∷ (own ++ rest)) cells into fs world) (turn_at whole (own ++ rest) (put x (Some word) cells) into fs world) (turn_at whole rest cells' into fs world)
@@ -89,7 +89,7 @@ module _ (target : Target) where
     pub kept : (z : ℕ) → z < base → z ≢ x → cells' z ≡ cells z
     pub there : cells' x ≡ Some word
 
-  pub gives_one : (operation : AsmOperation) (args : List ℕ) (base x : ℕ) (cells : ℕ → Option ℕ) (words : List ℕ) (word : ℕ) → 2 * length args + operation_instructions operation ≤ 5 → all_of (map cells args) ≡ Some words → computed target.constants operation words ≡ Some word
+  pub gives_one : (operation : AsmOperation) (args : List ℕ) (base x : ℕ) (cells : ℕ → Option ℕ) (words : List ℕ) (word : ℕ) → 2 * length args + operation_instructions operation ≤ line_cost → all_of (map cells args) ≡ Some words → computed target.constants operation words ≡ Some word
       → Gives 1 (computes operation args x ∷ []) base x word cells
   gives_one operation args base x cells words word two words_are computed_is =
       record {
@@ -310,7 +310,7 @@ module _ (target : Target) where
   -- a routine that leaves the values as they are
   routine_runs : (routine : Routine) (a b first second : ℕ) (whole : Function) (rest : List Line) (cells : ℕ → Option ℕ) (into : Option ℕ) (fs : List (Frame Line)) (world : World) (events : List Event) → cells a ≡ Some first → cells b ≡ Some second
       → ((held : Option ℕ) → (Runs.world_primitives target).serve routine (first ∷ second ∷ []) held world ≡ answers 0 (told_more events world) false)
-      → ((held : Option ℕ) → (Runs.world_primitives target).lasts routine (first ∷ second ∷ []) held world ≤ 78)
+      → ((held : Option ℕ) → (Runs.world_primitives target).lasts routine (first ∷ second ∷ []) held world ≤ Runs.routine_cost)
       → Run print_cost 1 events (turn_at whole (acts (Action.Routine routine) (a ∷ b ∷ []) ∷ rest) cells into fs world) (turn_at whole rest cells into fs (told_more events world))
   routine_runs routine a b first second whole rest cells into fs world events at_a at_b serves light =
       Runs.line_runs target print_cost whole (acts (Action.Routine routine) (a ∷ b ∷ [])) rest cells into fs world (first ∷ second ∷ []) events (turn_at whole rest cells into fs (told_more events world))
@@ -322,7 +322,7 @@ module _ (target : Target) where
   routine_performs : (routine : Routine) (n : ℕ) (first_lines : List Line) (a b base x first second : ℕ) (events : List Event) (cells middle : ℕ → Option ℕ) (world : World) → n ≤ 2 → Changes n first_lines cells middle → ((z : ℕ) → z < base → middle z ≡ cells z)
       → middle a ≡ Some first → middle b ≡ Some second
       → ((held : Option ℕ) → (Runs.world_primitives target).serve routine (first ∷ second ∷ []) held world ≡ answers 0 (told_more events world) false)
-      → ((held : Option ℕ) → (Runs.world_primitives target).lasts routine (first ∷ second ∷ []) held world ≤ 78)
+      → ((held : Option ℕ) → (Runs.world_primitives target).lasts routine (first ∷ second ∷ []) held world ≤ Runs.routine_cost)
       → Performs (first_lines ++ (acts (Action.Routine routine) (a ∷ b ∷ []) ∷ sets unit_word x ∷ [])) base x unit_type unit cells world (told_more events world) events
   routine_performs routine n first_lines a b base x first second events cells middle world few changes kept at_a at_b serves light =
       record {

@@ -24,7 +24,7 @@ use Rattle.rv_isa.specs.AsmMachine.{is_label}
 use Rattle.rv_isa.specs.WellFormed.{is_written, is_alive, is_alive_behind, most_values, AreLabelsAhead, most_args, has_value, may_give}
 use Rattle.rv_isa.proofs.HeldTokens.{HoldsNone}
 use Rattle.rv_lower.specs.Lines.{Texts, computes, sets, copies_to, acts, unit_word, constant_word, choice_of, copies, temporaries, MakesTruth, Compares, ComparesNot, BinaryLines, PrintLines, FormLines}
-use Rattle.rv_lower.proofs.WellFormedness.{AllBound, Each, Readable, Good, HasRoom, weaker, room_more, to_variable, to_temporary, good_computes, readable_small, readable_more, readable_bound, readable_here, good_copies, good_hands, none_some, some_same}
+use Rattle.rv_lower.proofs.WellFormedness.{most_temporaries, AllBound, Each, Readable, Good, HasRoom, weaker, room_more, to_variable, to_temporary, good_computes, readable_small, readable_more, readable_bound, readable_here, good_copies, good_hands, none_some, some_same}
 use Rattle.rv_lower.proofs.AbsentLabels.{HasNo, has_no_append}
 
 -- Lines lead from code before which C is alive to code before which B is alive: there are at most n of them.
@@ -62,7 +62,7 @@ module _ (base : ℕ) (bound : List ℕ) (has : HasRoom base bound) where
   With limit = Readable base limit bound
 
   -- a temporary is written: the next one, or one again
-  pub next_temporary : (limit : ℕ) (operation : AsmOperation) (args : List ℕ) → limit < base + 8 → may_give (OfAction.Compute operation) ≡ true → length args ≤ 2 → Each (With limit) args
+  pub next_temporary : (limit : ℕ) (operation : AsmOperation) (args : List ℕ) → limit < base + most_temporaries → may_give (OfAction.Compute operation) ≡ true → length args ≤ 2 → Each (With limit) args
       → Leads (With limit) (With (limit + 1)) 1 (computes operation args limit ∷ [])
   next_temporary limit operation args less gives few each = record {
     no_label = λ l. (refl, tt);
@@ -70,7 +70,7 @@ module _ (base : ℕ) (bound : List ℕ) (has : HasRoom base bound) where
     good = λ rest good. to_temporary base limit bound operation args rest has less gives few each good;
   }
 
-  again_temporary : (limit at : ℕ) (operation : AsmOperation) (args : List ℕ) → limit ≤ base + 8 → at < limit → may_give (OfAction.Compute operation) ≡ true → length args ≤ 2 → Each (With limit) args
+  again_temporary : (limit at : ℕ) (operation : AsmOperation) (args : List ℕ) → limit ≤ base + most_temporaries → at < limit → may_give (OfAction.Compute operation) ≡ true → length args ≤ 2 → Each (With limit) args
       → Leads (With limit) (With limit) 1 (computes operation args at ∷ [])
   again_temporary limit at operation args le less gives few each = record {
     no_label = λ l. (refl, tt);
@@ -122,7 +122,7 @@ module _ (base : ℕ) (bound : List ℕ) (has : HasRoom base bound) (x : ℕ) (l
   has_more = room_more base bound x has less
 
   -- the variable is written, and again
-  writes : (limit : ℕ) (operation : AsmOperation) (args : List ℕ) → limit ≤ base + 8 → may_give (OfAction.Compute operation) ≡ true → length args ≤ 2 → Each (Before limit) args
+  writes : (limit : ℕ) (operation : AsmOperation) (args : List ℕ) → limit ≤ base + most_temporaries → may_give (OfAction.Compute operation) ≡ true → length args ≤ 2 → Each (Before limit) args
       → Leads (Before limit) (Behind limit) 1 (computes operation args x ∷ [])
   writes limit operation args le gives few each = record {
     no_label = λ l. (refl, tt);
@@ -130,7 +130,7 @@ module _ (base : ℕ) (bound : List ℕ) (has : HasRoom base bound) (x : ℕ) (l
     good = λ rest good. to_variable base limit bound operation args x rest has le gives few each less good;
   }
 
-  writes_again : (limit : ℕ) (operation : AsmOperation) (args : List ℕ) → limit ≤ base + 8 → may_give (OfAction.Compute operation) ≡ true → length args ≤ 2 → Each (Behind limit) args
+  writes_again : (limit : ℕ) (operation : AsmOperation) (args : List ℕ) → limit ≤ base + most_temporaries → may_give (OfAction.Compute operation) ≡ true → length args ≤ 2 → Each (Behind limit) args
       → Leads (Behind limit) (Behind limit) 1 (computes operation args x ∷ [])
   writes_again limit operation args le gives few each = record {
     no_label = λ l. (refl, tt);
@@ -159,7 +159,7 @@ module _ (base : ℕ) (bound : List ℕ) (has : HasRoom base bound) (x : ℕ) (l
   serves : (n : ℕ) (own : List Line) → n ≤ 9 → Leads (Before base) (Behind base) n own → Serves own
   serves n own le leads = leads_weaker (Before base) (Before base) (Behind base) (Behind base) n 9 own (λ v is. is) (λ v is. is) le leads
 
-  then_again : (n limit : ℕ) (own : List Line) (operation : AsmOperation) (args : List ℕ) → limit ≤ base + 8 → may_give (OfAction.Compute operation) ≡ true → length args ≤ 2 → Each (Behind limit) args
+  then_again : (n limit : ℕ) (own : List Line) (operation : AsmOperation) (args : List ℕ) → limit ≤ base + most_temporaries → may_give (OfAction.Compute operation) ≡ true → length args ≤ 2 → Each (Behind limit) args
       → Leads (Before base) (Behind limit) n own → Leads (Before base) (Behind limit) (n + 1) (own ++ (computes operation args x ∷ []))
   then_again n limit own operation args le gives few each leads =
       leads_then (Before base) (Behind limit) (Behind limit) n 1 own (computes operation args x ∷ []) leads (writes_again limit operation args le gives few each)

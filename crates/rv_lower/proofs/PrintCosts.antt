@@ -16,6 +16,7 @@ use Rattle.cell_runtime.specs.Prints.{int_piece, int_count}
 use Rattle.cell_runtime.specs.Operations.{all_bytes, address_in, bytes_at}
 use Rattle.cell_runtime.specs.World.{World, told_more, print_int}
 use Rattle.rv_lower.specs.Lines.{choice_of}
+use Rattle.rv_lower.proofs.Runs.{longest_number, routine_cost}
 use Rattle.rv_lower.proofs.Words.{signed_fits}
 use Rattle.kk_source.specs.FormEffects.{piece_of}
 
@@ -28,11 +29,11 @@ some_digits w less = some (signed w) (signed_fits w less).sfits
     some (pos n) small = decimal_nonempty n (omega (arith, small))
     some (negsuc n) small = omega arith
 
-few_steps : (z : ℤ) → mag z < 2 ^ 31 → length (signed_decimal z) ≤ 11 → int_count z ≤ 78
+few_steps : (z : ℤ) → mag z < 2 ^ 31 → length (signed_decimal z) ≤ longest_number → int_count z ≤ routine_cost
 few_steps (pos n) small few = omega (arith, length-decimal-le 10 n (omega arith) (omega (arith, small)) (omega (arith, small)))
 few_steps (negsuc n) small few = omega (arith, few)
 
-pub few_steps_of : (w : ℕ) → w < 2 ^ 32 → int_count (signed w) ≤ 78
+pub few_steps_of : (w : ℕ) → w < 2 ^ 32 → int_count (signed w) ≤ routine_cost
 few_steps_of w less =
     let small = (signed_fits w less).sfits in
     few_steps (signed w) small (length_signed_le 10 (signed w) (omega (arith, small)) (omega (arith, small)))

@@ -11,26 +11,41 @@ use Rattle.rv_isa.specs.declared.asm.Operation.TheVariants as Op
 use Rattle.rv_isa.specs.Processor.{Ending}
 use Rattle.rv_isa.specs.AsmCode.{Line, Lines}
 use Rattle.rv_isa.specs.AsmMachine.{AsmTurn, asm_acts, asm_next, asm_machine, asm_told, asm_goes}
-use Rattle.rv_isa.specs.Costs.{operation_instructions, instructions_of, line_moves}
+use Rattle.rv_isa.specs.declared.asm.Action.TheVariants.{Routine}
+use Rattle.rv_isa.specs.declared.routine.Routine.TheVariants.{PrintInt}
+use Rattle.rv_isa.specs.Costs.{operation_instructions, action_instructions, move_instructions, instructions_of, line_moves}
 use Rattle.rv_isa.specs.Frames.{Frame, put, put_into, all_of, top}
 use Rattle.rv_isa.specs.Primitives.{Primitives, go, ended, stuck, or_stuck}
 use Rattle.cell_heap.specs.Pool.{Pool}
 use Rattle.cell_runtime.specs.Operations.{Constants, computed}
+use Rattle.cell_runtime.specs.Prints.{buffer_bytes}
 use Rattle.cell_runtime.specs.World.{World, primitives, computed_in}
 use Rattle.rv_lower.specs.Lines.{computes}
 use Rattle.rv_lower.proofs.WordValues.{Function, frame_at, turn_at}
 
--- The most that a line weighs that computes a word: that of two words has five moves and one instruction.
+-- The most that a line weighs that computes a word, but for the move of the word: one of two words has two moves for each of them,
+-- and one instruction.
+abbrev pub line_cost : ℕ
+line_cost = 2 * 2 + 1
+
 abbrev pub word_cost : ℕ
-word_cost = 6
+word_cost = line_cost + 1
 
--- the most that a print's routine weighs, with two moves and two instructions before it
+-- the bytes of the longest number that is printed, but for a line end: its sign and ten digits
+abbrev pub longest_number : ℕ
+longest_number = buffer_bytes - 1
+
+-- the most that a print's routine weighs: that of the longest number, with six instructions for each byte
+abbrev pub routine_cost : ℕ
+routine_cost = 12 + 6 * longest_number
+
+-- the same with two moves before it, and as the action that it is
 abbrev pub print_cost : ℕ
-print_cost = 82
+print_cost = routine_cost + 2 * move_instructions + action_instructions (Routine PrintInt)
 
--- the most that the lines of a form weigh
+-- the most that the lines of a form weigh: a print, the two words before it, and its value
 abbrev pub most_cost : ℕ
-most_cost = 100
+most_cost = print_cost + 3 * word_cost
 
 -- the assembler's machine of a program: its constants and cells, the depth, and its functions
 pub record Target : Type 0 where
@@ -156,7 +171,7 @@ module _ (target : Target) where
 
   -- an operation on words
   pub compute_runs : (whole : Function) (operation : Operation) (args : List ℕ) (x : ℕ) (rest : List Line) (cells : ℕ → Option ℕ) (into : Option ℕ) (fs : List (Frame Line)) (world : World) (words : List ℕ) (word : ℕ)
-      → 2 * length args + operation_instructions operation ≤ 5 → all_of (map cells args) ≡ Some words
+      → 2 * length args + operation_instructions operation ≤ line_cost → all_of (map cells args) ≡ Some words
       → computed target.constants operation words ≡ Some word
       → Runs word_cost 1 [] (turn_at whole (computes operation args x ∷ rest) cells into fs world) (turn_at whole rest (put x (Some word) cells) into fs world)
   compute_runs whole operation args x rest cells into fs world words word two words_are computed_is =

@@ -20,6 +20,7 @@ use Rattle.rv_isa.proofs.ValueBounds.{lines_joined}
 use Rattle.rv_lower.specs.Lines.{Texts, computes, sets, registers, unit_word, copies, temporaries, MakesTruth, Compares, BinaryLines, PrintLines, FormLines}
 use Rattle.rv_lower.specs.Lowered.{Goal, returns, joins, goal_lines, from_to}
 use Rattle.rv_lower.proofs.Operations.{HasArguments}
+use Rattle.rv_lower.proofs.WellFormedness.{most_temporaries}
 
 module _ (most : ℕ) where
   -- ---- arguments that are handed over
@@ -105,7 +106,7 @@ module _ (most : ℕ) where
 
   -- ---- forms
 
-  module _ (base x : ℕ) (room : base + 8 ≤ most) (less : x < most) where
+  module _ (base x : ℕ) (room : base + most_temporaries ≤ most) (less : x < most) where
     zero_less : base < most
     zero_less = omega (arith, room)
 

@@ -11,9 +11,9 @@ use Rattle.rv_isa.specs.declared.asm.Operation.{Operation}
 use Rattle.rv_isa.specs.declared.asm.Operation.TheVariants.{Mv}
 use Rattle.rv_isa.specs.AsmCode.{Line}
 use Rattle.rv_isa.specs.Frames.{is_among}
-use Rattle.rv_isa.specs.WellFormed.{is_written, is_alive, is_alive_behind, most_values, AreLabelsAhead, most_args, has_value, may_give, AreDistinct, IsSpent, IsLineFormed, AreLinesFormed, AreTokensHeld}
+use Rattle.rv_isa.specs.WellFormed.{is_written, is_alive, is_alive_behind, most_values, AreLabelsAhead, most_args, has_value, may_give, hands_over, AreDistinct, IsSpent, IsLineFormed, AreLinesFormed, AreTokensHeld}
 use Rattle.rv_isa.proofs.HeldTokens.{HoldsNone, none_held_before}
-use Rattle.rv_lower.specs.Lines.{computes, copies, temporaries}
+use Rattle.rv_lower.specs.Lines.{acts, computes, copies, temporaries}
 
 -- a value that may be read: of a variable that is bound, or a temporary that was written
 abbrev pub Readable : ℕ → ℕ → List ℕ → ℕ → Type 0
@@ -58,15 +58,19 @@ pub record Good (B : ℕ → Type 0) (code : List Line) : Type 0 where
   pub formed : AreFormed code
   pub alive : (v : ℕ) → is_alive v code ≡ true → B v
 
--- variables are below the temporaries, of which there is room for eight
+-- the most temporaries of a form: as many as a call has arguments
+abbrev pub most_temporaries : ℕ
+most_temporaries = greatest_of Parameters
+
+-- variables are below the temporaries, of which there is room for the most
 pub record HasRoom (base : ℕ) (bound : List ℕ) : Type 0 where
-  pub room : base + 8 ≤ most_values
+  pub room : base + most_temporaries ≤ most_values
   pub low : (v : ℕ) → is_bound bound v ≡ true → v < base
 
 pub weaker : {B C : ℕ → Type 0} {code : List Line} → ((v : ℕ) → B v → C v) → Good B code → Good C code
 weaker into good = record { formed = good.formed; alive = λ v is. into v (good.alive v is) }
 
-pub readable_small : (base limit : ℕ) (bound : List ℕ) → HasRoom base bound → limit ≤ base + 8 → (v : ℕ) → Readable base limit bound v → v < most_values
+pub readable_small : (base limit : ℕ) (bound : List ℕ) → HasRoom base bound → limit ≤ base + most_temporaries → (v : ℕ) → Readable base limit bound v → v < most_values
 readable_small base limit bound has le v (inl is) = omega (arith, has.low v is, has.room)
 readable_small base limit bound has le v (inr is) = omega (arith, is, has.room)
 
@@ -110,6 +114,20 @@ none_some is = grind (arith, is)
 pub some_same : {x v : ℕ} → Some x ≡ Some v → x ≡ v
 some_same e = grind (arith, e)
 
+-- a line that gives no value and hands none over
+pub formed_effect : (action : Action) (args : List ℕ) (rest : List Line) → AreLabelsAhead action rest
+    → length args ≤ most_args action → hands_over action ≡ false → All (λ v. v < most_values) args
+    → IsLineFormed (acts action args) rest
+formed_effect action args rest labels few kept small = record {
+  labels = labels;
+  few = few;
+  gives = λ is. absurd (false≢true is);
+  distinct = λ is. absurd (false≢true (sym kept ∙ is));
+  spent = λ is. absurd (false≢true (sym kept ∙ is));
+  args_small = small;
+  into_small = λ v is. absurd (none_some is);
+}
+
 -- an operation on words
 pub computes_formed : (B : ℕ → Type 0) (operation : Operation) (args : List ℕ) (x : ℕ) (rest : List Line)
     → may_give (Compute operation) ≡ true → length args ≤ 2 → Each B args → ((v : ℕ) → B v → v < most_values) → x < most_values
@@ -144,7 +162,7 @@ variable_left base limit bound x v (inl is) other = inl (left (or_cases (x == v)
     left (inr is) = is
 
 -- a variable is written
-pub to_variable : (base limit : ℕ) (bound : List ℕ) (operation : Operation) (args : List ℕ) (x : ℕ) (rest : List Line) → HasRoom base bound → limit ≤ base + 8
+pub to_variable : (base limit : ℕ) (bound : List ℕ) (operation : Operation) (args : List ℕ) (x : ℕ) (rest : List Line) → HasRoom base bound → limit ≤ base + most_temporaries
     → may_give (Compute operation) ≡ true → length args ≤ 2 → Each (Readable base limit bound) args → x < base
     → Good (Readable base limit (x ∷ bound)) rest → Good (Readable base limit bound) (computes operation args x ∷ rest)
 to_variable base limit bound operation args x rest has le gives few all less good =
@@ -162,7 +180,7 @@ temporary_left base limit bound v (inr is) other = inr (is.0, last (cases_eq lim
     last (inr differs) = let ne : limit ≢ v = differs in omega (arith, is, ne)
 
 -- the next temporary is written
-pub to_temporary : (base limit : ℕ) (bound : List ℕ) (operation : Operation) (args : List ℕ) (rest : List Line) → HasRoom base bound → limit < base + 8
+pub to_temporary : (base limit : ℕ) (bound : List ℕ) (operation : Operation) (args : List ℕ) (rest : List Line) → HasRoom base bound → limit < base + most_temporaries
     → may_give (Compute operation) ≡ true → length args ≤ 2 → Each (Readable base limit bound) args
     → Good (Readable base (limit + 1) bound) rest → Good (Readable base limit bound) (computes operation args limit ∷ rest)
 to_temporary base limit bound operation args rest has le gives few all good =
@@ -182,7 +200,7 @@ pub readable_here : (base limit : ℕ) (bound : List ℕ) (x : ℕ) → Readable
 readable_here base limit bound x = inl (or_left (x == x) (is_bound bound x) (eq-eqb x x refl))
 
 -- arguments are copied to the next temporaries
-pub good_copies : (base limit last : ℕ) (bound : List ℕ) (xs : List ℕ) (rest : List Line) → HasRoom base bound → limit + length xs ≡ last → last ≤ base + 8 → AllBound bound xs
+pub good_copies : (base limit last : ℕ) (bound : List ℕ) (xs : List ℕ) (rest : List Line) → HasRoom base bound → limit + length xs ≡ last → last ≤ base + most_temporaries → AllBound bound xs
     → Good (Readable base last bound) rest → Good (Readable base limit bound) (copies limit xs ++ rest)
 good_copies base limit last bound [] rest has is le all good = subst (λ (n : ℕ). Good (Readable base n bound) rest) (omega (arith, is)) good
 good_copies base limit last bound (x ∷ xs) rest has is le all good =
