@@ -29,7 +29,7 @@ use Rattle.kk_counted.specs.Lowerable.{AreBelow, bound_list}
 use Rattle.std.specs.Prelude.{filter, if◌then◌else◌}
 use Rattle.std.proofs.lemmas.Bool.{eq-eqb, false≢true, or_left, or_right}
 use Rattle.std.proofs.lemmas.List.Elements.{All-nil}
-use Rattle.kk_core.specs.Sizes.{AreBound, most_parameters}
+use Rattle.kk_core.specs.Sizes.{AreBound}
 use Rattle.kk_syntax.specs.Shapes.{is_among as is_bound}
 use Rattle.rv_isa.specs.declared.asm.Action.TheVariants.{Compute, Routine}
 use Rattle.rv_isa.specs.declared.asm.Operation.{Operation}
@@ -55,6 +55,8 @@ use Rattle.rv_lower.proofs.WellFormedness.{
   readable_more,
   none_some,
   some_same,
+  most_temporaries,
+  formed_effect,
 }
 use Rattle.rv_lower.proofs.Operations.{Leads, leads_then, leads_weaker, next_temporary, only_bound}
 use Rattle.rv_cells.specs.CellLines.{Loads, Stores, AllLoads, AllStores, StoresIf, SomeStores, dup_lines, drop_lines, dups_lines, drops_lines}
@@ -66,16 +68,7 @@ good_effect : (B : ℕ → Type 0) (operation : Operation) (args : List ℕ) (re
     → ((v : ℕ) → B v → v < most_values) → Good B rest → Good B (acts (Compute operation) args ∷ rest)
 good_effect B operation args rest few each small good = record {
   formed = formed_more (acts (Compute operation) args) rest
-      (record {
-        labels = tt;
-        few = few;
-        gives = λ is. absurd (false≢true is);
-        distinct = λ is. absurd (false≢true is);
-        spent = λ is. absurd (false≢true is);
-        args_small = all_each B (λ v. v < most_values) args small each;
-        into_small = λ v is. absurd (none_some is);
-      })
-      tt good.formed;
+      (formed_effect (Compute operation) args rest tt few refl (all_each B (λ v. v < most_values) args small each)) tt good.formed;
   alive = alive_line B (acts (Compute operation) args) rest each (λ v other is. good.alive v is);
 }
 
@@ -85,7 +78,7 @@ module _ (base : ℕ) where
   Bound bound = Readable base base bound
 
   pub effect : (bound : List ℕ) (limit : ℕ) (operation : Operation) (args : List ℕ) → HasRoom base bound
-      → limit ≤ base + most_parameters
+      → limit ≤ base + most_temporaries
       → length args ≤ 2
       → Each (Readable base limit bound) args
       → Leads (Readable base limit bound) (Readable base limit bound) 1 (acts (Compute operation) args ∷ [])
@@ -125,7 +118,7 @@ module _ (base : ℕ) where
       one_more n = omega arith
 
   -- a word is stored, and all fields are
-  pub one_store : (bound : List ℕ) (limit cell i from : ℕ) (line : Line) → HasRoom base bound → limit ≤ base + most_parameters
+  pub one_store : (bound : List ℕ) (limit cell i from : ℕ) (line : Line) → HasRoom base bound → limit ≤ base + most_temporaries
       → Readable base limit bound cell → Readable base limit bound from → Stores cell i from line
       → Leads (Readable base limit bound) (Readable base limit bound) 1 (line ∷ [])
   one_store bound limit cell i from line has le is is_from stores =
@@ -133,7 +126,7 @@ module _ (base : ℕ) where
       (effect bound limit (Op.Sw stores.0) (cell ∷ from ∷ []) has le (omega arith) (is, (is_from, tt)))
 
   pub stores_lead : (bound : List ℕ) (limit cell i : ℕ) (xs : List ℕ) (lines : List Line) → HasRoom base bound
-      → limit ≤ base + most_parameters
+      → limit ≤ base + most_temporaries
       → is_bound bound cell ≡ true → AreBound bound xs → AllStores cell i xs lines
       → Leads (Readable base limit bound) (Readable base limit bound) (length xs) lines
   stores_lead bound limit cell i [] lines has le is are stores =
@@ -151,7 +144,7 @@ module _ (base : ℕ) where
 
   -- some words are stored
   pub some_lead : (takes : ℕ → Bool) (bound : List ℕ) (limit cell i position : ℕ) (xs : List ℕ) (lines : List Line)
-      → HasRoom base bound → limit ≤ base + most_parameters → is_bound bound cell ≡ true → AreBound bound xs
+      → HasRoom base bound → limit ≤ base + most_temporaries → is_bound bound cell ≡ true → AreBound bound xs
       → SomeStores takes cell i position xs lines
       → Leads (Readable base limit bound) (Readable base limit bound) (length xs) lines
   some_lead takes bound limit cell i position [] lines has le is are stores =

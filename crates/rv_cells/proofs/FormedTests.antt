@@ -5,7 +5,6 @@ use Rattle.std.specs.Prelude.{filter, if◌then◌else◌}
 use Rattle.kk_syntax.specs.Shapes.{is_among as is_bound}
 use Rattle.kk_core.specs.declared.decisions.Answer.{Answer}
 use Rattle.kk_core.specs.declared.decisions.Edge.{Edge}
-use Rattle.kk_core.specs.Sizes.{most_parameters}
 use Rattle.rv_isa.specs.declared.asm.Action.TheVariants.{Jump, Branch}
 use Rattle.rv_isa.specs.declared.asm.Condition.{Condition}
 use Rattle.rv_isa.specs.declared.asm.Condition.TheVariants.{Equal, NotEqual}
@@ -14,7 +13,7 @@ use Rattle.rv_isa.specs.declared.asm.ImmediateOperation.TheVariants.{Andi}
 use Rattle.rv_isa.specs.AsmCode.{Line}
 use Rattle.rv_isa.specs.AsmMachine.{is_label}
 use Rattle.rv_lower.specs.Lines.{computes, sets, acts}
-use Rattle.rv_lower.proofs.WellFormedness.{Readable, Good, HasRoom, weaker}
+use Rattle.rv_lower.proofs.WellFormedness.{Readable, Good, HasRoom, weaker, most_temporaries}
 use Rattle.rv_lower.proofs.WellFormedness.{good_computes, readable_small, readable_more, to_temporary}
 use Rattle.rv_lower.proofs.AbsentLabels.{HasNo, has_no_append}
 use Rattle.rv_lower.proofs.Codes.{good_alone, StandsAhead, stands_past, good_branch}
@@ -165,7 +164,7 @@ module _ (base : ℕ) (bound : List ℕ) (has : HasRoom base bound) where
 
     -- ---- tests of a value, with a temporary
 
-    module _ (value t : ℕ) (le : base ≤ t) (room : t + 2 ≤ base + most_parameters) (readable : With t value) where
+    module _ (value t : ℕ) (le : base ≤ t) (room : t + 2 ≤ base + most_temporaries) (readable : With t value) where
       compare_good : (word : ℕ) (condition : Condition) (label : ℕ) (rest : List Line) → StandsAhead (With base) label rest
           → Good (With t) rest → Good (With t) (sets word t ∷ acts (Branch condition label) (value ∷ t ∷ []) ∷ rest)
       compare_good word condition label rest ahead good =
@@ -228,7 +227,7 @@ module _ (base : ℕ) (bound : List ℕ) (has : HasRoom base bound) where
     here_readable t le = inr (le, omega arith)
 
     decide_good : (layout : Layout) (next value t : ℕ) (plain tagged : List Edge) (otherwise other : Option ℕ) (lines rest : List Line)
-        → base ≤ t → t + 3 ≤ base + most_parameters → With t value
+        → base ≤ t → t + 3 ≤ base + most_temporaries → With t value
         → DecideLines layout to next value t plain tagged otherwise other lines → EdgesAhead plain rest → EdgesAhead tagged rest
         → OtherAhead otherwise rest → OtherAhead other rest → Good (With t) rest → Good (With t) (lines ++ rest)
     decide_good layout next value t plain [] otherwise other lines rest le room readable is words tags out left good =
@@ -296,7 +295,7 @@ module _ (base : ℕ) (bound : List ℕ) (has : HasRoom base bound) where
     walked_readable x [] bound_x = inl bound_x
     walked_readable x (field ∷ way) bound_x = inr (omega arith, omega arith)
 
-    spare_low : (at : List ℕ) → base ≤ spare base at × (spare base at + 3 ≤ base + most_parameters)
+    spare_low : (at : List ℕ) → base ≤ spare base at × (spare base at + 3 ≤ base + most_temporaries)
     spare_low [] = (omega arith, omega arith)
     spare_low (field ∷ way) = (omega arith, omega arith)
 

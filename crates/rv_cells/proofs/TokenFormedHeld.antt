@@ -19,7 +19,7 @@ use Rattle.rv_isa.specs.WellFormed.{IsLineFormed, AreLinesFormed, AreTokensHeld}
 use Rattle.rv_isa.proofs.HeldTokens.{held_from, held_to, held_over}
 use Rattle.rv_lower.specs.Lines.{acts, copies_to, copies, temporaries}
 use Rattle.rv_lower.specs.Lowered.{Goal}
-use Rattle.rv_lower.proofs.WellFormedness.{AllBound, Each, Readable, IsWithin, readable_within}
+use Rattle.rv_lower.proofs.WellFormedness.{AllBound, Each, Readable, IsWithin, readable_within, most_temporaries}
 use Rattle.rv_lower.proofs.WellFormedness.{Good, HasRoom, alive_line, none_some, some_same, computes_formed}
 use Rattle.rv_lower.proofs.WellFormedness.{readable_small, temporary_left, variable_left, hands_formed, hands_alive}
 use Rattle.rv_lower.proofs.WellFormedness.{temporaries_above}
@@ -28,7 +28,6 @@ use Rattle.rv_lower.proofs.Operations.{only_bound, copied}
 use Rattle.rv_lower.proofs.Codes.{Ahead, Fits}
 use Rattle.rv_cells.specs.CellLines.{drop_lines, hold_lines, unhold_lines}
 use Rattle.rv_cells.proofs.CellForms.{take_formed}
-use Rattle.kk_core.specs.Sizes.{most_parameters}
 
 -- well-formed code, before which the tokens of these values are held, the newest first, and only certain values are alive
 pub record Holding (held : List ℕ) (B : ℕ → Type 0) (code : List Line) : Type 0 where
@@ -139,7 +138,7 @@ module _ (variables base : ℕ) (bound : List ℕ) (has : HasRoom base bound) (h
       )
 
   holding_copies : (limit last : ℕ) (xs : List ℕ) (rest : List Line) → base ≤ limit → limit + length xs ≡ last
-      → last ≤ base + most_parameters
+      → last ≤ base + most_temporaries
       → AllBound bound xs → Each (λ x. x < variables) xs → Holding held (Readable base last bound) rest
       → Holding held (Readable base limit bound) (copies limit xs ++ rest)
   holding_copies limit last [] rest above is le all small more =
