@@ -1,5 +1,5 @@
 -- The image of a program with tokens does what its bare form does: its assembler code does, and the image does what that does.
-use Rattle.std.proofs.Common.{◌≡◌, ◌≢◌, ◌+◌, ◌*◌, ◌%◌, ◌<◌, ◌≤◌, ℕ, List, [], All, Some, length, slice_get, refl, sym, ap, subst, ◌∙◌, arith}
+use Rattle.std.proofs.Common.{◌≡◌, ◌≢◌, ◌+◌, ◌<◌, ◌≤◌, ℕ, List, [], All, Some, length, slice_get, refl, sym, ap, subst, ◌∙◌, arith}
 use Rattle.kk_base.specs.Agreements.{Agree}
 use Rattle.kk_base.specs.Machines.{state}
 use Rattle.kk_base.proofs.Agreements.{agree_through}
@@ -10,40 +10,30 @@ use Rattle.kk_counted.specs.CountedCosts.{roomy_cost}
 use Rattle.kk_counted.specs.CountedStates.{CountedSetting, stopped, counted_first_state}
 use Rattle.kk_counted.specs.Heaps.{busy}
 use Rattle.kk_counted.specs.Keeping.{counted_after}
-use Rattle.kk_counted.specs.FunctionSizes.{AllHaveVariablesBelow, AllHaveSlotsBelow}
-use Rattle.kk_counted.specs.Lowerable.{AreLowerable}
-use Rattle.kk_counted.specs.Marks.{CellMarks}
 use Rattle.kk_counted.specs.TokenCosts.{HasRoom}
-use Rattle.kk_counted.specs.TokenLengths.{tokened_functions_length, all_tokened_computes}
-use Rattle.kk_counted.specs.TokenLowerable.{AreTokensLowerable}
-use Rattle.kk_counted.specs.TokenSpending.{AreTokensSpent}
-use Rattle.kk_counted.specs.TokenedWords.{all_tokened_prints, all_tokened_words}
-use Rattle.kk_counted.specs.TokenedCodes.{TokenedFunction, TokenedProgram}
+use Rattle.kk_counted.specs.TokenedCodes.{TokenedProgram}
 use Rattle.kk_counted.specs.declared.shape.Shape.{Shape}
-use Rattle.cell_heap.specs.Pool.{Pool}
 use Rattle.elf_image.specs.Parts.{memory_of}
 use Rattle.elf_image.specs.Program.{IsProgramImage, text_of}
 use Rattle.elf_image.specs.declared.part.Part.{Part}
 use Rattle.rv_isa.specs.AsmCode.{Lines}
 use Rattle.rv_isa.specs.AsmMachine.{asm_machine, asm_start}
 use Rattle.rv_isa.specs.Costs as Costs
-use Rattle.rv_isa.specs.ValueBounds.{HaveValuesBelow}
 use Rattle.rv_isa.specs.Execution.{rv32im, run}
 use Rattle.rv_isa.specs.Primitives.{stuck}
 use Rattle.rv_isa.specs.Processor.{start, goes}
 use Rattle.rv_isa.specs.ProcessorMachine.{processor_machine}
 use Rattle.rv_lower.specs.Lowered.{from_to}
-use Rattle.rv_lower.specs.Written.{most_print}
 use Rattle.rv_cells.specs.Fitting.{IsFit}
 use Rattle.rv_cells.specs.FormLines.{HaveOwnLines, ComesToItsLines, FollowsEachState}
-use Rattle.rv_cells.specs.Layout.{Layout, IsNarrow}
+use Rattle.rv_cells.specs.Laws.{RunTheSame, ComeToTheirLines, AreWellLowered, AreShortLowered, TakeFewWords, HaveFewValues}
 use Rattle.rv_cells.specs.Meaning.{setting_on}
 use Rattle.rv_cells.specs.Tables.{table_of, layout_in}
 use Rattle.rv_cells.specs.TokenedFunctions.{most_values_of}
 use Rattle.rv_cells.specs.TokenedLowered.{IsTokenedForm}
 use Rattle.rv_cells.specs.TokenedMeaning.{roomy_outside, IsTokenedLowered, TokenedRunsTheSame}
 use Rattle.rv_place.specs.Images.{outside_lines}
-use Rattle.cell_runtime.specs.Operations.{Constants, all_bytes}
+use Rattle.cell_runtime.specs.Operations.{Constants}
 use Rattle.cell_runtime.specs.World.{first_world, primitives}
 use Rattle.kk_back.specs.Assembled.{IsPlaceable, IsAsmImage, IsImageOfAsm}
 use Rattle.kk_back.specs.Images.{counted_setting, IsRunnable, IsImageOf, HasOwnAddresses}
@@ -53,68 +43,6 @@ use Rattle.kk_back.specs.Sizes.{FitsText, most_text_bytes}
 use Rattle.kk_back.proofs.ImageLayers.{same_some}
 use Rattle.kk_back.proofs.FreeCells.{all_are_free}
 use Rattle.kk_back.proofs.OwnAddresses.{own_addresses}
-
--- the law that assembler code does what a program with tokens does, with room for these
-abbrev pub RunTheSame : Type 0
-RunTheSame =
-    (layout : Layout) (marks : CellMarks) (code : TokenedProgram) (constants : List (List ℕ)) (functions : List Lines)
-    → (lowered : IsTokenedLowered layout marks code constants functions) → (room : ℕ) → HasRoom room code
-    → (pool : Pool) (depth first : ℕ) (input : List ℕ) → pool.first % 32 ≡ 0 → 0 < pool.first
-    → All (λ byte. byte < 256) input
-    → ((n : ℕ) → IsFit layout (counted_after (roomy_cost room) (setting_on (bare_program code) pool depth) input n))
-    → TokenedRunsTheSame code room constants functions lowered.main_lines pool depth first input
-
--- the law that each form has lines of its own in assembler code, to which that code comes where the program is at the form, and that
--- its cells follow the counted heap
-abbrev pub ComeToTheirLines : Type 0
-ComeToTheirLines =
-    (layout : Layout) (marks : CellMarks) (code : TokenedProgram) (constants : List (List ℕ)) (functions : List Lines)
-    → (lowered : IsTokenedLowered layout marks code constants functions)
-    → AreLowerable marks (bare_program code).functions → code.main ≡ 0
-    → (own : HaveOwnLines (bare_program code) functions) × ((room : ℕ) → HasRoom room code
-    → (pool : Pool) (depth first : ℕ) (input : List ℕ) → pool.first % 32 ≡ 0 → 0 < pool.first
-    → All (λ byte. byte < 256) input
-    → ((n : ℕ) → IsFit layout (counted_after (roomy_cost room) (setting_on (bare_program code) pool depth) input n))
-    → ComesToItsLines layout (bare_program code) room constants functions lowered.main_lines pool depth first input own
-    × FollowsEachState layout (bare_program code) room constants functions lowered.main_lines pool depth first input)
-
--- the law that a program that can be lowered with its tokens, and is so, is one whose assembler code is well formed
-abbrev pub AreWellLowered : Type 0
-AreWellLowered =
-    (shape : Shape) (code : TokenedProgram) (texts : List (List ℕ)) (each : List Lines)
-    → AreLowerable (table_of shape) (bare_program code).functions → AreTokensLowerable code.functions → AreTokensSpent code
-    → IsTokenedForm shape code.texts code.functions each texts
-    → IsNarrow (layout_in shape) → (layout_in shape).tag 0 ≡ 0 → (layout_in shape).tag 1 ≡ 1
-    → (main : TokenedFunction) → slice_get code.functions code.main ≡ Some main → main.parameters ≡ 0
-    → IsTokenedLowered (layout_in shape) (table_of shape) code texts each
-
--- the law that the assembler code of a program with tokens is no longer than its form tells
-abbrev pub AreShortLowered : Type 0
-AreShortLowered =
-    (shape : Shape) (code : TokenedProgram) (texts : List (List ℕ)) (each : List Lines)
-    → AreLowerable (table_of shape) (bare_program code).functions → AreTokensLowerable code.functions → AreTokensSpent code
-    → IsTokenedForm shape code.texts code.functions each texts → IsNarrow (layout_in shape)
-    → (Costs.functions_length each ≤ tokened_functions_length code.functions)
-    × (length (all_bytes texts) ≤ most_print * all_tokened_computes code.functions)
-
--- the law that the assembler code of a program with tokens takes no more words than its forms tell, its constants included
-abbrev pub TakeFewWords : Type 0
-TakeFewWords =
-    (shape : Shape) (code : TokenedProgram) (texts : List (List ℕ)) (each : List Lines)
-    → AreLowerable (table_of shape) (bare_program code).functions → AreTokensLowerable code.functions → AreTokensSpent code
-    → IsTokenedForm shape code.texts code.functions each texts → IsNarrow (layout_in shape)
-    → (Costs.functions_length each + 64 * all_tokened_prints code.functions
-    ≤ 8 * length code.functions + all_tokened_words code.functions)
-    × (length (all_bytes texts) ≤ most_print * all_tokened_prints code.functions)
-
--- the law that the assembler code of a program with tokens names no more values than its variables, its slots and its temporaries
-abbrev pub HaveFewValues : Type 0
-HaveFewValues =
-    (shape : Shape) (code : TokenedProgram) (texts : List (List ℕ)) (each : List Lines)
-    → AreLowerable (table_of shape) (bare_program code).functions → AreTokensSpent code
-    → IsTokenedForm shape code.texts code.functions each texts → (variables slots : ℕ)
-    → AllHaveVariablesBelow variables (bare_program code).functions → AllHaveSlotsBelow slots code.functions
-    → HaveValuesBelow (most_values_of variables slots) each
 
 no_params : (names : List ℕ) (n : ℕ) → names ≡ from_to 0 n → n ≡ 0 → names ≡ []
 no_params names n are none = are ∙ ap (from_to 0) none

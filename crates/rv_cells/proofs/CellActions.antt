@@ -20,6 +20,7 @@ use Rattle.cell_runtime.specs.declared.process.Ending.TheVariants as OfEnding
 use Rattle.cell_runtime.specs.Stops.{number_of}
 use Rattle.rv_isa.specs.Costs.{operation_instructions}
 use Rattle.cell_runtime.specs.World.{World, computed_in, with_cells, takes_cell, gives_up, drop_count}
+use Rattle.cell_runtime.specs.Drops.{most_drop_cost}
 use Rattle.rv_lower.proofs.FormEffects.{reads_one, reads_two}
 use Rattle.rv_lower.specs.Lines.{computes, sets, copies_to, acts}
 use Rattle.rv_cells.specs.CellLines.{Loads, Stores}
@@ -114,11 +115,12 @@ module _ (target : Target) (rest : List Line) (f : Frame Line) (fs : List (Frame
 
   -- a reference is given up by the runtime
   pub drop_runs : (x word : ℕ) (work : Work) → f.cells x ≡ Some word → drop_cells target.pool word world.cells ≡ Some work
-      → Runs target (8 * work.gave + 52 * work.freed + 8) 1
+      → Runs target (most_drop_cost work.gave work.freed + (most_moves + 1)) 1
       (turn_of (acts (Calls Drop) (x ∷ []) ∷ rest) f fs world)
       (turn_of rest f fs (with_cells world (merged_cells work world.cells)))
   drop_runs x word work is given =
-      line_runs target (8 * work.gave + 52 * work.freed + 8) (acts (Calls Drop) (x ∷ [])) rest f fs world (word ∷ [])
+      line_runs target (most_drop_cost work.gave work.freed + (most_moves + 1)) (acts (Calls Drop) (x ∷ [])) rest f fs world
+      (word ∷ [])
       (turn_of rest f fs (with_cells world (merged_cells work world.cells))) (reads_one f.cells x word is)
       (ap (λ o. asm_served None (left_at rest f ∷ fs) (gives_up o world)) given)
       (λ held. omega (arith, ap drop_count given)) (silent target world)

@@ -55,26 +55,20 @@ use Rattle.rv_lower.proofs.WellFormedness.{
   readable_more,
   none_some,
   some_same,
+  most_temporaries,
+  formed_effect,
 }
 use Rattle.rv_lower.proofs.Operations.{Leads, leads_then, leads_weaker, next_temporary, only_bound}
 use Rattle.rv_cells.specs.CellLines.{Loads, Stores, AllLoads, AllStores, StoresIf, SomeStores, dup_lines, drop_lines, dups_lines, drops_lines}
 use Rattle.rv_cells.specs.CellLines.{SetIf, SomeWords, ConstructLines}
+use Rattle.rv_cells.specs.Layout.{first_field}
 
 -- an operation that gives no value
 good_effect : (B : ℕ → Type 0) (operation : Operation) (args : List ℕ) (rest : List Line) → length args ≤ 2 → Each B args
     → ((v : ℕ) → B v → v < most_values) → Good B rest → Good B (acts (Compute operation) args ∷ rest)
 good_effect B operation args rest few each small good = record {
   formed = formed_more (acts (Compute operation) args) rest
-      (record {
-        labels = tt;
-        few = few;
-        gives = λ is. absurd (false≢true is);
-        distinct = λ is. absurd (false≢true is);
-        spent = λ is. absurd (false≢true is);
-        args_small = all_each B (λ v. v < most_values) args small each;
-        into_small = λ v is. absurd (none_some is);
-      })
-      tt good.formed;
+      (formed_effect (Compute operation) args rest tt few refl (all_each B (λ v. v < most_values) args small each)) tt good.formed;
   alive = alive_line B (acts (Compute operation) args) rest each (λ v other is. good.alive v is);
 }
 
@@ -83,7 +77,8 @@ module _ (base : ℕ) where
   abbrev Bound : List ℕ → ℕ → Type 0
   Bound bound = Readable base base bound
 
-  pub effect : (bound : List ℕ) (limit : ℕ) (operation : Operation) (args : List ℕ) → HasRoom base bound → limit ≤ base + 8
+  pub effect : (bound : List ℕ) (limit : ℕ) (operation : Operation) (args : List ℕ) → HasRoom base bound
+      → limit ≤ base + most_temporaries
       → length args ≤ 2
       → Each (Readable base limit bound) args
       → Leads (Readable base limit bound) (Readable base limit bound) 1 (acts (Compute operation) args ∷ [])
@@ -123,14 +118,15 @@ module _ (base : ℕ) where
       one_more n = omega arith
 
   -- a word is stored, and all fields are
-  pub one_store : (bound : List ℕ) (limit cell i from : ℕ) (line : Line) → HasRoom base bound → limit ≤ base + 8
+  pub one_store : (bound : List ℕ) (limit cell i from : ℕ) (line : Line) → HasRoom base bound → limit ≤ base + most_temporaries
       → Readable base limit bound cell → Readable base limit bound from → Stores cell i from line
       → Leads (Readable base limit bound) (Readable base limit bound) 1 (line ∷ [])
   one_store bound limit cell i from line has le is is_from stores =
       subst (λ l. Leads (Readable base limit bound) (Readable base limit bound) 1 (l ∷ [])) (sym stores.2)
       (effect bound limit (Op.Sw stores.0) (cell ∷ from ∷ []) has le (omega arith) (is, (is_from, tt)))
 
-  pub stores_lead : (bound : List ℕ) (limit cell i : ℕ) (xs : List ℕ) (lines : List Line) → HasRoom base bound → limit ≤ base + 8
+  pub stores_lead : (bound : List ℕ) (limit cell i : ℕ) (xs : List ℕ) (lines : List Line) → HasRoom base bound
+      → limit ≤ base + most_temporaries
       → is_bound bound cell ≡ true → AreBound bound xs → AllStores cell i xs lines
       → Leads (Readable base limit bound) (Readable base limit bound) (length xs) lines
   stores_lead bound limit cell i [] lines has le is are stores =
@@ -148,7 +144,7 @@ module _ (base : ℕ) where
 
   -- some words are stored
   pub some_lead : (takes : ℕ → Bool) (bound : List ℕ) (limit cell i position : ℕ) (xs : List ℕ) (lines : List Line)
-      → HasRoom base bound → limit ≤ base + 8 → is_bound bound cell ≡ true → AreBound bound xs
+      → HasRoom base bound → limit ≤ base + most_temporaries → is_bound bound cell ≡ true → AreBound bound xs
       → SomeStores takes cell i position xs lines
       → Leads (Readable base limit bound) (Readable base limit bound) (length xs) lines
   some_lead takes bound limit cell i position [] lines has le is are stores =
@@ -285,7 +281,7 @@ module _ (base : ℕ) where
 
   pub build_leads : (bound : List ℕ) (x header : ℕ) (arguments : List ℕ) (head count : Line) (stores : List Line)
       → HasRoom base bound → is_bound bound x ≡ true → AreBound bound arguments → Stores x 1 base head
-      → AllStores x 2 arguments stores → Stores x 0 base count
+      → AllStores x first_field arguments stores → Stores x 0 base count
       → Leads (Bound bound) (Bound bound) (4 + length arguments) (sets header base ∷ head ∷ (stores ++ sets 1 base ∷ count ∷ []))
   build_leads bound x header arguments head count stores room here are heads all_stores counts =
       build_with bound x header arguments head count stores room here heads
@@ -317,7 +313,7 @@ module _ (base : ℕ) where
       (leads_then (Bound bound) (Bound bound) (Bound bound) 2 (length arguments + 2) own.0 (own.1 ++ own.2)
       (set_leads bound head x 1 header own.0 room here own.3)
       (leads_then (Bound bound) (Bound bound) (Bound bound) (length arguments) 2 own.1 own.2
-      (some_lead takes bound base x 2 0 arguments own.1 room (omega arith) here are own.4)
+      (some_lead takes bound base x first_field 0 arguments own.1 room (omega arith) here are own.4)
       (set_leads bound count x 0 1 own.2 room here own.5))))
 
   pub bound_later : (bound : List ℕ) (x : ℕ) (xs : List ℕ) → AreBound bound xs → AreBound (x ∷ bound) xs

@@ -23,6 +23,7 @@ use Rattle.cell_heap.specs.Blocks.{Cells, own, with_block, with_word, nothing, r
 use Rattle.cell_runtime.specs.declared.process.Ending.TheVariants as OfEnding
 use Rattle.cell_runtime.specs.Stops.{number_of}
 use Rattle.cell_runtime.specs.World.{World, with_cells}
+use Rattle.cell_runtime.specs.Drops.{given_cost, freed_cost}
 use Rattle.rv_lower.specs.Lines.{sets}
 use Rattle.rv_lower.proofs.Calls.{HaveWords}
 use Rattle.rv_cells.specs.Layout.{Layout, words_in, header_of, FitsField, FitFields}
@@ -164,7 +165,7 @@ made_spot s x c vs at frame cells =
 -- a construction costs its lines, and what is saved for the drop of its cell
 abbrev pub construct_cost : Known → List ℕ → ℕ
 construct_cost known arguments = 5 * most_moves + 26 + row_cost arguments (most_moves + 2) +
-    (52 + 8 * length arguments)
+    (freed_cost + given_cost * length arguments)
 
 -- the words of arguments, where another variable has an address, and behind a temporary
 pub args_words : (known : Known) (s : Spot) (here : Here known s) (x at : ℕ) (xs : List ℕ) → AllAmong xs s.bound

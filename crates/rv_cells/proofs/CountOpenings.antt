@@ -25,7 +25,7 @@ use Rattle.rv_isa.specs.Frames.{Frame, found}
 use Rattle.cell_heap.specs.Blocks.{Cells, own, with_block, with_word}
 use Rattle.cell_runtime.specs.World.{World, with_cells}
 use Rattle.rv_lower.specs.Lines.{computes, sets, acts}
-use Rattle.rv_cells.specs.Layout.{word_in, words_in, header_of}
+use Rattle.rv_cells.specs.Layout.{word_in, words_in, header_of, first_field}
 use Rattle.rv_cells.specs.CountedCells.{AreFrom, Owner, cell_of, in_hand, IsCellOf, with_owner, is_aside}
 use Rattle.rv_cells.specs.CellLines.{CountLines, dups_lines, drops_lines}
 use Rattle.rv_cells.proofs.NameContents.{some-is, held_other, held_count}
@@ -256,7 +256,6 @@ module _ (known : Known) (o : CountOpening known) where
     pub whole : frame.whole ≡ s.frame.whole
     pub function : frame.function ≡ s.frame.function
     pub held : frame.held ≡ s.frame.held
-    pub into : frame.into ≡ s.frame.into
 
   -- from a jump behind the opening
   pub leaves : (frame : Frame Line) (world : World) → found (λ line. is_label behind line.action) frame.whole ≡ Some ending
@@ -309,9 +308,9 @@ module _ (known : Known) (o : CountOpening known) where
         stands.shows.header
         ∙ ap (λ k. Some (header_of known.layout k)) (ap (λ (h : Held). h.cell.made_by) same_held ∙ made.made)
 
-    fields_there : AreFrom stands.words 2 (words_in known.layout s.address named.fields)
+    fields_there : AreFrom stands.words first_field (words_in known.layout s.address named.fields)
     fields_there =
-        subst (λ vs. AreFrom stands.words 2 (words_in known.layout s.address vs))
+        subst (λ vs. AreFrom stands.words first_field (words_in known.layout s.address vs))
         (ap (λ (h : Held). h.cell.fields) same_held ∙ made.fields) stands.shows.fields
 
     pub record Emptied (frame : Frame Line) (owners : ℕ → Owner) (cells : Cells) : Type 0 where
@@ -322,7 +321,7 @@ module _ (known : Known) (o : CountOpening known) where
       pub hand : owners at ≡ in_hand words
       pub count_is : words 0 ≡ Some 1
       pub header_is : words 1 ≡ Some (header_of known.layout c)
-      pub fields_are : AreFrom words 2 (words_in known.layout s.address named.fields)
+      pub fields_are : AreFrom words first_field (words_in known.layout s.address named.fields)
       pub aside : (y : ℕ) → y ≢ at → is_aside (s.owners y) ≡ true → owners y ≡ s.owners y
       pub was : (y : ℕ) → y ≢ at → is_aside (owners y) ≡ true → owners y ≡ s.owners y
 
@@ -384,7 +383,6 @@ module _ (known : Known) (o : CountOpening known) where
               whole = did.whole;
               function = did.function;
               held = did.held;
-              into = did.into;
             };
             words = stands.words;
             hand = did.aside at (ap is_aside here_at) ∙ here_at;
@@ -574,7 +572,6 @@ module _ (known : Known) (o : CountOpening known) where
             whole = did.whole;
             function = did.function;
             held = did.held;
-            into = did.into;
           },
           did.aside,
           did.was,

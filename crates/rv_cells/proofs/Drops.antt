@@ -29,6 +29,9 @@ use Rattle.rv_cells.proofs.Owners.{chosen_by}
 use Rattle.rv_cells.proofs.Requests.{is_cell, free_is}
 use Rattle.rv_cells.proofs.Words.{from_later, cell_owned, cell_named}
 use Rattle.rv_cells.proofs.Cascades.{Gives, fields_given, body_in, shown_count, shown_by, Lowered, AreOwners, Stand, shown, cascade}
+use Rattle.rv_isa.specs.Numbers.{cell_size}
+use Rattle.kk_base.specs.Limits.{greatest_of}
+use Rattle.kk_base.specs.declared.limit.LimitKind.TheVariants.{Fields}
 
 -- ---- what is seen of a counted cell's block
 
@@ -69,7 +72,7 @@ module _ {layout : Layout} {address : ℕ → ℕ} {held : Held} {words : ℕ �
       ∙ sym (fits_length (layout.fields held.cell.made_by) held.cell.fields shows.fits)
 
   known : (more : List ℕ) × (fields_of words ≡ words_in layout address held.cell.fields ++ more)
-  known = fields_known words 2 6 (words_in layout address held.cell.fields) shows.fields
+  known = fields_known words 2 (greatest_of Fields) (words_in layout address held.cell.fields) shows.fields
       (let few = narrow.few held.cell.made_by in let same = as_many in omega arith)
 
   pub seen_counted : seen (own words) ≡ counted held.count (body_in (own words))
@@ -181,7 +184,8 @@ counted_is zero block some = absurd (omega (arith, some))
 counted_is (suc n) block some = refl
 
 module _ {pool : Pool} {layout : Layout} {address : ℕ → ℕ} {owners : ℕ → Owner} {heap : Heap} {cells : Cells}
-    (aligned : pool.first % 32 ≡ 0) (narrow : IsNarrow layout) (follows : Follows pool layout address owners heap cells) where
+    (aligned : pool.first % cell_size ≡ 0) (narrow : IsNarrow layout)
+    (follows : Follows pool layout address owners heap cells) where
   are : AreOwners address owners
   are = record {
     is_at = λ x name is. (cell_owned follows name x is).is_at;

@@ -56,13 +56,20 @@ inc = record {
       TokenedArms.no_arm));
 }
 
+-- `main` calls it with a list of two numbers
+abbrev calls_inc : Tokened
+calls_inc =
+    Tokened.compute 5 (OfForm.Call 0) (4 ∷ []) [] (Tokened.drop 5 (Tokened.compute 6 OfForm.Unit [] [] (Tokened.give 6)))
+
+abbrev makes_second : Tokened
+makes_second =
+    Tokened.compute 3 (OfForm.Number (pos 8)) [] [] (Tokened.compute 4 (OfForm.Construct 3) (3 ∷ 2 ∷ []) [] calls_inc)
+
 abbrev main : TokenedFunction
 main = record {
   parameters = 0;
   body = Tokened.compute 0 (OfForm.Construct 2) [] [] (Tokened.compute 1 (OfForm.Number (pos 7)) [] []
-      (Tokened.compute 2 (OfForm.Construct 3) (1 ∷ 0 ∷ []) [] (Tokened.compute 3 (OfForm.Number (pos 8)) [] []
-      (Tokened.compute 4 (OfForm.Construct 3) (3 ∷ 2 ∷ []) [] (Tokened.compute 5 (OfForm.Call 0) (4 ∷ []) []
-      (Tokened.drop 5 (Tokened.compute 6 OfForm.Unit [] [] (Tokened.give 6))))))));
+      (Tokened.compute 2 (OfForm.Construct 3) (1 ∷ 0 ∷ []) [] makes_second));
 }
 
 -- `False`, `True`, `Nil` and `Cons`
@@ -399,73 +406,13 @@ inc_lowered = record {
   };
   marked = record {
     parameters_marked = (refl, tt);
-    body_marked = (
-      refl,
-      (
-        (refl, refl),
-        (
-          (
-            (refl, (refl, (refl, (refl, tt)))),
-            (
-              tt,
-              (
-                (tt, refl),
-                (
-                  (refl, (refl, tt)),
-                  (
-                    ((refl, (refl, tt)), refl),
-                    (
-                      (refl, tt),
-                      (
-                        ((refl, tt), refl),
-                        (
-                          (refl, (refl, tt)),
-                          (((refl, (refl, tt)), refl), (refl, refl)),
-                        ),
-                      ),
-                    ),
-                  ),
-                ),
-              ),
-            ),
-          ),
-          tt,
-        ),
-      ),
-    );
+    body_marked = assumption;
   };
   few = lit≤ tt;
   low = lit≤ tt;
   fewest = λ most below. (let last : 6 < most = below.numbered.1.0.1.1.1.1.1.1.1.0 in omega (arith, last));
   least = lit≤ tt;
-  numbered = (
-    tt,
-    (
-      (
-        ((lit< tt, (lit< tt, tt)), (refl, (refl, (refl, tt)))),
-        (
-          lit< tt,
-          (
-            (lit< tt, (lit< tt, (lit< tt, tt))),
-            (
-              lit< tt,
-              (
-                (lit< tt, (lit< tt, (lit< tt, (lit< tt, tt)))),
-                (
-                  lit< tt,
-                  (
-                    (lit< tt, (lit< tt, (lit< tt, (lit< tt, (lit< tt, tt))))),
-                    (lit< tt, ((lit< tt, (lit< tt, (lit< tt, (lit< tt, (lit< tt, (lit< tt, tt)))))), tt)),
-                  ),
-                ),
-              ),
-            ),
-          ),
-        ),
-      ),
-      tt,
-    ),
-  );
+  numbered = omega arith;
   has = inc_slots;
 }
 
@@ -486,6 +433,34 @@ main_second = sets 8 3 ∷ (makes_cons 7 4 3 2 ++ main_call)
 abbrev main_lines : Lines
 main_lines = record { params = []; code = sets 1 0 ∷ sets 7 1 ∷ (makes_cons 7 2 1 0 ++ main_second) }
 
+main_calls : CodeLines (setting main_holds 7) 7 returns 0 calls_inc main_call 0
+main_calls = (
+  copies_to 4 7 ∷ record { action = Call 0; args = 7 ∷ []; into = Some 5 } ∷ [],
+  main_end,
+  0,
+  false,
+  (refl, refl),
+  (
+    sets 1 6 ∷ acts Return (6 ∷ []) ∷ [],
+    (sets 1 6 ∷ [], acts Return (6 ∷ []) ∷ [], 0, false, (refl, refl), (refl, refl), tt, refl),
+    refl,
+  ),
+  tt,
+  refl,
+)
+
+main_makes : CodeLines (setting main_holds 7) 7 returns 0 makes_second main_second 0
+main_makes = (
+  sets 8 3 ∷ [],
+  makes_cons 7 4 3 2 ++ main_call,
+  0,
+  false,
+  ((8, refl, lit< tt, refl), refl),
+  (makes_cons 7 4 3 2, main_call, 0, false, (makes 7 4 3 2, refl), main_calls, tt, refl),
+  tt,
+  refl,
+)
+
 main_code : CodeLines (setting main_holds 7) 7 returns 0 main.body main_lines.code 0
 main_code = (
   sets 1 0 ∷ [],
@@ -499,47 +474,7 @@ main_code = (
     0,
     false,
     ((7, refl, lit< tt, refl), refl),
-    (
-      makes_cons 7 2 1 0,
-      main_second,
-      0,
-      false,
-      (makes 7 2 1 0, refl),
-      (
-        sets 8 3 ∷ [],
-        makes_cons 7 4 3 2 ++ main_call,
-        0,
-        false,
-        ((8, refl, lit< tt, refl), refl),
-        (
-          makes_cons 7 4 3 2,
-          main_call,
-          0,
-          false,
-          (makes 7 4 3 2, refl),
-          (
-            copies_to 4 7 ∷ record { action = Call 0; args = 7 ∷ []; into = Some 5 } ∷ [],
-            main_end,
-            0,
-            false,
-            (refl, refl),
-            (
-              sets 1 6 ∷ acts Return (6 ∷ []) ∷ [],
-              (sets 1 6 ∷ [], acts Return (6 ∷ []) ∷ [], 0, false, (refl, refl), (refl, refl), tt, refl),
-              refl,
-            ),
-            tt,
-            refl,
-          ),
-          tt,
-          refl,
-        ),
-        tt,
-        refl,
-      ),
-      tt,
-      refl,
-    ),
+    (makes_cons 7 2 1 0, main_second, 0, false, (makes 7 2 1 0, refl), main_makes, tt, refl),
     tt,
     refl,
   ),
@@ -561,94 +496,13 @@ main_lowered = record {
   };
   marked = record {
     parameters_marked = tt;
-    body_marked = (
-      tt,
-      (
-        (tt, refl),
-        (
-          tt,
-          (
-            (tt, refl),
-            (
-              (refl, (refl, tt)),
-              (
-                ((refl, (refl, tt)), refl),
-                (
-                  tt,
-                  (
-                    (tt, refl),
-                    (
-                      (refl, (refl, tt)),
-                      (
-                        ((refl, (refl, tt)), refl),
-                        (
-                          (refl, tt),
-                          (
-                            ((refl, tt), refl),
-                            (
-                              refl,
-                              (
-                                tt,
-                                (
-                                  (tt, refl),
-                                  (refl, refl),
-                                ),
-                              ),
-                            ),
-                          ),
-                        ),
-                      ),
-                    ),
-                  ),
-                ),
-              ),
-            ),
-          ),
-        ),
-      ),
-    );
+    body_marked = assumption;
   };
   few = lit≤ tt;
   low = lit≤ tt;
   fewest = λ most below. (let last : 6 < most = below.numbered.1.1.1.1.1.1.1.1.1.1.1.1.0 in omega (arith, last));
   least = lit≤ tt;
-  numbered = (
-    lit< tt,
-    (
-      tt,
-      (
-        lit< tt,
-        (
-          (lit< tt, tt),
-          (
-            lit< tt,
-            (
-              (lit< tt, (lit< tt, tt)),
-              (
-                lit< tt,
-                (
-                  (lit< tt, (lit< tt, (lit< tt, tt))),
-                  (
-                    lit< tt,
-                    (
-                      (lit< tt, (lit< tt, (lit< tt, (lit< tt, tt)))),
-                      (
-                        lit< tt,
-                        (
-                          (lit< tt, (lit< tt, (lit< tt, (lit< tt, (lit< tt, tt))))),
-                          (lit< tt, ((lit< tt, (lit< tt, (lit< tt, (lit< tt, (lit< tt, (lit< tt, tt)))))), tt)),
-                        ),
-                      ),
-                    ),
-                  ),
-                ),
-              ),
-            ),
-          ),
-        ),
-      ),
-    ),
-  );
+  numbered = omega arith;
   has = (tt, (tt, (tt, (tt, (tt, (tt, (tt, tt)))))));
 }
 

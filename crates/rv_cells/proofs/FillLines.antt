@@ -257,15 +257,12 @@ module _ (known : Known) (rest : List Line) (fs : List (Frame Line)) (s : Spot) 
                 (twice_owner at (in_hand words) (cell_of (length s.heap)) owners) counted.follows;
             values = has_same made later_values (λ z among. kept_below z (made.below z among));
           };
-          grown = λ z none. (among_none x s.bound z none).1;
           spared = λ z below apart none.
               kept_below z below ∙ put_other x z at values (among_none x s.bound z none).0 ∙ spared z below apart;
           left = refl {a = s.world.left};
-          trace = refl {a = s.world.trace};
           whole = refl;
           function = refl;
           held = refl;
-          into = refl;
         },
         λ z below differ. kept_below z below ∙ put_other x z at values differ,
       )

@@ -12,7 +12,7 @@ use Rattle.kk_syntax.specs.declared.program.Form.TheVariants.{Unary, Binary, Pri
 use Rattle.kk_syntax.specs.Programs.{text_at}
 use Rattle.kk_syntax.specs.Shapes.{is_among}
 use Rattle.kk_source.specs.FormEffects.{piece_of}
-use Rattle.kk_core.specs.CodeNodes.{form_words}
+use Rattle.kk_core.specs.CodeNodes.{form_words, give_words, field_words, reference_length, call_words, argument_words, tail_call_words, other_form_words, string_words, opened_field_words}
 use Rattle.kk_counted.specs.Lowerable.{HasArity}
 use Rattle.kk_counted.specs.TokenLengths.{hold_length, unhold_length, other_length}
 use Rattle.kk_counted.specs.TokenedWords.{prints_in_form}
@@ -27,7 +27,7 @@ use Rattle.rv_isa.specs.Costs.{line_length, code_length}
 use Rattle.rv_lower.specs.Lines.{computes, sets, acts, registers, copies, temporaries}
 use Rattle.rv_lower.specs.Lowered.{Goal, returns, joins, goal_lines, tail_lines}
 use Rattle.rv_lower.specs.Lines.{MakesTruth, Compares, ComparesWithOne, BinaryLines, PrintLines, AppliedLines}
-use Rattle.rv_cells.specs.Layout.{header_of}
+use Rattle.rv_cells.specs.Layout.{header_of, first_field}
 use Rattle.rv_cells.specs.CellLines.{Loads, Stores, AllLoads, AllStores, dup_lines, drop_lines, dups_lines, drops_lines}
 use Rattle.rv_cells.specs.CellLines.{StoresIf, SomeStores, SetIf, is_kept, ConstructLines, FillLines, TokenUniqueLines, CountLines}
 use Rattle.rv_cells.specs.CellLines.{hold_lines, unhold_lines, token_ends}
@@ -38,7 +38,7 @@ lines_append [] second = omega arith
 lines_append (line ∷ first) second = omega (arith, lines_append first second)
 
 -- where a value goes
-pub goal_length : (goal : Goal) (x : ℕ) → code_length (goal_lines goal x) ≤ 6
+pub goal_length : (goal : Goal) (x : ℕ) → code_length (goal_lines goal x) ≤ give_words
 goal_length returns x = omega arith
 goal_length (joins y label) x = omega arith
 
@@ -47,7 +47,7 @@ goal_length (joins y label) x = omega arith
 pub load_length : (cell i into : ℕ) (line : Line) → Loads cell i into line → line_length line ≡ 4
 load_length cell i into line is = ap line_length is.2
 
-pub store_length : (cell i from : ℕ) (line : Line) → Stores cell i from line → line_length line ≡ 5
+pub store_length : (cell i from : ℕ) (line : Line) → Stores cell i from line → line_length line ≡ field_words
 store_length cell i from line is = ap line_length is.2
 
 pub loads_length : (cell i : ℕ) (xs : List ℕ) (lines : List Line) → AllLoads cell i xs lines → code_length lines ≡ 4 * length xs
@@ -57,7 +57,8 @@ loads_length cell i (x ∷ xs) lines is =
     let one = load_length cell i x is.0 is.2 in
     let more = loads_length cell (suc i) xs is.1 is.3 in omega (arith, whole, one, more)
 
-stores_length : (cell i : ℕ) (xs : List ℕ) (lines : List Line) → AllStores cell i xs lines → code_length lines ≡ 5 * length xs
+stores_length : (cell i : ℕ) (xs : List ℕ) (lines : List Line) → AllStores cell i xs lines
+    → code_length lines ≡ field_words * length xs
 stores_length cell i [] lines is = let empty = ap code_length is in omega (arith, empty)
 stores_length cell i (x ∷ xs) lines is =
     let whole = ap code_length is.4 in
@@ -79,28 +80,28 @@ filter_apart takes (x ∷ xs) = by (takes x) (filter_apart takes xs)
     by false apart = omega (arith, apart)
 
 module _ (holds : ℕ → Bool) where
-  pub dup_length : (x : ℕ) → code_length (dup_lines holds x) ≤ 7
+  pub dup_length : (x : ℕ) → code_length (dup_lines holds x) ≤ reference_length
   dup_length x = by (holds x)
     where
-      by : (t : Bool) → code_length (dup_lines (λ y. t) x) ≤ 7
+      by : (t : Bool) → code_length (dup_lines (λ y. t) x) ≤ reference_length
       by true = omega arith
       by false = omega arith
 
-  pub drop_length : (base x : ℕ) → code_length (drop_lines base holds x) ≤ 7
+  pub drop_length : (base x : ℕ) → code_length (drop_lines base holds x) ≤ reference_length
   drop_length base x = by (holds x)
     where
-      by : (t : Bool) → code_length (drop_lines base (λ y. t) x) ≤ 7
+      by : (t : Bool) → code_length (drop_lines base (λ y. t) x) ≤ reference_length
       by true = omega arith
       by false = omega arith
 
-  pub dups_length : (xs : List ℕ) → code_length (dups_lines holds xs) ≤ 7 * length xs
+  pub dups_length : (xs : List ℕ) → code_length (dups_lines holds xs) ≤ reference_length * length xs
   dups_length [] = omega arith
   dups_length (x ∷ xs) =
       let whole = lines_append (dup_lines holds x) (dups_lines holds xs) in
       let one = dup_length x in
       let more = dups_length xs in omega (arith, whole, one, more)
 
-  pub drops_length : (base : ℕ) (xs : List ℕ) → code_length (drops_lines base holds xs) ≤ 7 * length xs
+  pub drops_length : (base : ℕ) (xs : List ℕ) → code_length (drops_lines base holds xs) ≤ reference_length * length xs
   drops_length base [] = omega arith
   drops_length base (x ∷ xs) =
       let whole = lines_append (drop_lines base holds x) (drops_lines base holds xs) in
@@ -112,7 +113,7 @@ module _ (holds : ℕ → Bool) where
   -- both ways of an opening by the count of a cell, but the lines at their ends
   pub count_length : (base shared behind x : ℕ) (fields used : List ℕ) (ends begins lines : List Line)
       → CountLines base holds shared behind x fields used ends begins lines
-      → code_length lines ≤ 25 + 15 * length fields + code_length ends + code_length begins
+      → code_length lines ≤ 25 + opened_field_words * length fields + code_length ends + code_length begins
   count_length base shared behind x fields used ends begins lines is =
       let kept : List ℕ = filter (is_among used) fields in
       let others : List ℕ = filter (λ y. not (is_among used y)) fields in
@@ -167,7 +168,7 @@ module _ (holds : ℕ → Bool) where
       omega (arith, own)
 
 pub construct_length : (base x header : ℕ) (arguments : List ℕ) (lines : List Line) → ConstructLines base x header arguments lines
-    → code_length lines ≤ 19 + 5 * length arguments
+    → code_length lines ≤ 19 + field_words * length arguments
 construct_length base x header arguments lines is =
     let whole = ap code_length is.6 in
     let apart = lines_append is.1 (sets 1 base ∷ is.2 ∷ []) in
@@ -190,7 +191,7 @@ unholds_length (token ∷ tokens) = let more = unholds_length tokens in omega (a
 -- the stores of the kept fields and those of the others are as many as the fields
 both_length : (cell : ℕ) (kept : List ℕ) (i position : ℕ) (xs : List ℕ) (left fields : List Line)
     → SomeStores (is_kept true kept) cell i position xs left → SomeStores (is_kept false kept) cell i position xs fields
-    → code_length left + code_length fields ≡ 5 * length xs
+    → code_length left + code_length fields ≡ field_words * length xs
 both_length cell kept i position [] left fields one two =
     let empty = ap code_length one in let empty_too = ap code_length two in omega (arith, empty, empty_too)
 both_length cell kept i position (x ∷ xs) left fields one two =
@@ -202,7 +203,8 @@ both_length cell kept i position (x ∷ xs) left fields one two =
     let more = both_length cell kept (suc i) (suc position) xs one.1 two.1 one.3 two.3 in
     omega (arith, first, second, apart, apart_too, here, more)
   where
-    by : (b : Bool) → StoresIf b cell i x one.0 → StoresIf (not b) cell i x two.0 → code_length one.0 + code_length two.0 ≡ 5
+    by : (b : Bool) → StoresIf b cell i x one.0 → StoresIf (not b) cell i x two.0
+        → code_length one.0 + code_length two.0 ≡ field_words
     by true is empty =
         let whole = ap code_length is.2 in
         let store = store_length cell i x is.0 is.1 in
@@ -226,7 +228,7 @@ set_length false base x i word one two empty is =
 
 pub fill_length : (base x token : ℕ) (others : List ℕ) (filled header : ℕ) (arguments kept : List ℕ) (head count : Bool)
     (lines : List Line) → FillLines base x token others filled header arguments kept head count lines
-    → code_length lines ≤ 27 + 5 * length arguments + other_length * length others
+    → code_length lines ≤ 27 + field_words * length arguments + other_length * length others
 fill_length base x token others filled header arguments kept head count lines is =
     let taken : Line = record { action = Calls Take; args = []; into = Some x } in
     let built : List Line = acts (Label filled) [] ∷ is.1 in
@@ -245,7 +247,7 @@ fill_length base x token others filled header arguments kept head count lines is
     let stores_last = lines_append is.3.1 is.3.2 in
     let headers = set_length head base x 1 header is.2.0 is.3.0 is.2.3 is.3.3 in
     let counts = set_length count base x 0 1 is.2.2 is.3.2 is.2.5 is.3.5 in
-    let both = both_length x kept 2 0 arguments is.2.1 is.3.1 is.2.4 is.3.4 in
+    let both = both_length x kept first_field 0 arguments is.2.1 is.3.1 is.2.4 is.3.4 in
     omega (
       arith,
       whole,
@@ -284,7 +286,7 @@ with_one_length further x first lines size is =
     omega (arith, whole, size)
 
 binary_length : (base x : ℕ) (operator : BinaryOperator) (a b : ℕ) (lines : List Line) → BinaryLines base x operator a b lines
-    → code_length lines ≤ 23
+    → code_length lines ≤ other_form_words
 binary_length base x OfBinary.Add a b lines is = let whole = ap code_length is in omega (arith, whole)
 binary_length base x OfBinary.Subtract a b lines is = let whole = ap code_length is in omega (arith, whole)
 binary_length base x OfBinary.Multiply a b lines is = let whole = ap code_length is in omega (arith, whole)
@@ -322,7 +324,7 @@ temporaries_length base [] = omega arith
 temporaries_length base (x ∷ xs) = let more = temporaries_length (base + 1) xs in omega (arith, more)
 
 call_length : (base x f : ℕ) (arguments : List ℕ) (lines : List Line)
-    → AppliedLines base x (Call f) arguments lines → code_length lines ≤ 8 + 6 * length arguments
+    → AppliedLines base x (Call f) arguments lines → code_length lines ≤ call_words + argument_words * length arguments
 call_length base x f arguments lines is =
     let call : Line = record { action = CallOf f; args = temporaries base arguments; into = Some x } in
     let whole = ap code_length is in
@@ -330,7 +332,8 @@ call_length base x f arguments lines is =
     let copied = copies_length base arguments in
     let handed = temporaries_length base arguments in omega (arith, whole, apart, copied, handed)
 
-pub tail_length : (base f : ℕ) (arguments : List ℕ) → code_length (tail_lines base f arguments) ≤ 11 + 6 * length arguments
+pub tail_length : (base f : ℕ) (arguments : List ℕ) → code_length (tail_lines base f arguments)
+    ≤ tail_call_words + argument_words * length arguments
 tail_length base f arguments =
     let apart = lines_append (copies base arguments) (acts (TailCall f) (temporaries base arguments) ∷ []) in
     let copied = copies_length base arguments in
@@ -346,7 +349,7 @@ print_length base texts bytes lines is = let whole = ap code_length is.2 in omeg
 module _ (setting : Setting) where
   pub form_few : (x : ℕ) (form : Form) (arguments : List ℕ) (lines : List Line) → HasArity form arguments
       → ComputeLines setting x form arguments lines
-      → code_length lines + 64 * prints_in_form form ≤ form_words form arguments
+      → code_length lines + string_words * prints_in_form form ≤ form_words form arguments
   form_few x (Number value) arguments lines arity is = let whole = ap code_length is.3 in omega (arith, whole)
   form_few x Nothing arguments lines arity is = let whole = ap code_length is in omega (arith, whole)
   form_few x ReadByte arguments lines arity is = let whole = ap code_length is in omega (arith, whole)

@@ -15,7 +15,7 @@ use Rattle.rv_isa.specs.AsmCode.{Line}
 use Rattle.rv_isa.specs.ValueBounds.{AreValuesBelow, IsLineBelow, AreLinesBelow}
 use Rattle.rv_isa.proofs.ValueBounds.{lines_joined}
 use Rattle.rv_lower.specs.Lines.{computes, sets, copies_to, acts}
-use Rattle.rv_cells.specs.Layout.{Layout}
+use Rattle.rv_cells.specs.Layout.{Layout, first_field}
 use Rattle.rv_cells.specs.CellLines.{Loads, Stores, AllLoads, AllStores, StoresIf, SomeStores, SetIf, is_kept, dup_lines, drop_lines}
 use Rattle.rv_cells.specs.CellLines.{dups_lines, drops_lines, ConstructLines, hold_lines, unhold_lines, SomeWords, FillLines}
 use Rattle.rv_cells.specs.CellLines.{CountLines, token_ends, Walks, walked, spare, equal_lines, jump_lines, either_lines}
@@ -133,7 +133,7 @@ module _ (most : ℕ) where
   words_below head count takes base x header arguments lines base_less less below is =
       subst (AreLinesBelow most) (sym is.6)
       (lines_joined most is.0 (is.1 ++ is.2) (set_if_below head base x 1 header is.0 base_less less is.3)
-      (lines_joined most is.1 is.2 (some_stores_below takes x 2 0 arguments is.1 less below is.4)
+      (lines_joined most is.1 is.2 (some_stores_below takes x first_field 0 arguments is.1 less below is.4)
       (set_if_below count base x 0 1 is.2 base_less less is.5)))
 
   pub fill_below : (base x token : ℕ) (others : List ℕ) (filled header : ℕ) (arguments kept : List ℕ) (head count : Bool)
@@ -208,8 +208,10 @@ module _ (most : ℕ) where
       → Walks temporary value way lines → AreLinesBelow most lines
   walk_below temporary value [] lines less value_less is = subst (AreLinesBelow most) (sym is) tt
   walk_below temporary value (field ∷ way) lines less value_less is =
-      subst (AreLinesBelow most) (sym is.4)
-      (load_below value (2 + field) temporary is.0 value_less less is.2, walk_below temporary temporary way is.1 less less is.3)
+      subst (AreLinesBelow most) (sym is.4) (
+        load_below value (first_field + field) temporary is.0 value_less less is.2,
+        walk_below temporary temporary way is.1 less less is.3,
+      )
 
   equal_below : (value word temporary label : ℕ) → value < most → temporary < most
       → AreLinesBelow most (equal_lines value word temporary label)

@@ -13,11 +13,11 @@ use Rattle.rv_isa.specs.declared.asm.ImmediateOperation.TheVariants.{Andi}
 use Rattle.rv_isa.specs.AsmCode.{Line}
 use Rattle.rv_isa.specs.AsmMachine.{is_label}
 use Rattle.rv_lower.specs.Lines.{computes, sets, acts}
-use Rattle.rv_lower.proofs.WellFormedness.{Readable, Good, HasRoom, weaker}
+use Rattle.rv_lower.proofs.WellFormedness.{Readable, Good, HasRoom, weaker, most_temporaries}
 use Rattle.rv_lower.proofs.WellFormedness.{good_computes, readable_small, readable_more, to_temporary}
 use Rattle.rv_lower.proofs.AbsentLabels.{HasNo, has_no_append}
 use Rattle.rv_lower.proofs.Codes.{good_alone, StandsAhead, stands_past, good_branch}
-use Rattle.rv_cells.specs.Layout.{Layout}
+use Rattle.rv_cells.specs.Layout.{Layout, first_field}
 use Rattle.rv_cells.specs.CellLines.{Loads, Walks, walked, spare, jump_lines}
 use Rattle.rv_cells.specs.CountedLines.{is_plain, answer_word, answer_tag, Ways, number_tests, last_lines, ChoiceLines}
 use Rattle.rv_cells.specs.CountedLines.{OddLines, DecideLines, AreTried, TestLines, first_lines}
@@ -60,7 +60,7 @@ load_none cell i into line l loads = subst (λ (line : Line). is_label l line.ac
 walks_none : (t value : ℕ) (at : List ℕ) (lines : List Line) (l : ℕ) → Walks t value at lines → HasNo l lines
 walks_none t value [] lines l is = subst (HasNo l) (sym is) tt
 walks_none t value (field ∷ way) lines l is =
-    subst (HasNo l) (sym is.4) (load_none value (2 + field) t is.0 l is.2, walks_none t t way is.1 l is.3)
+    subst (HasNo l) (sym is.4) (load_none value (first_field + field) t is.0 l is.2, walks_none t t way is.1 l is.3)
 
 odd_none : (value t : ℕ) (to : ℕ → ℕ) (otherwise : Option ℕ) (odd : List Line) (l : ℕ) → OddLines value t to otherwise odd
     → HasNo l odd
@@ -164,7 +164,7 @@ module _ (base : ℕ) (bound : List ℕ) (has : HasRoom base bound) where
 
     -- ---- tests of a value, with a temporary
 
-    module _ (value t : ℕ) (le : base ≤ t) (room : t + 2 ≤ base + 8) (readable : With t value) where
+    module _ (value t : ℕ) (le : base ≤ t) (room : t + 2 ≤ base + most_temporaries) (readable : With t value) where
       compare_good : (word : ℕ) (condition : Condition) (label : ℕ) (rest : List Line) → StandsAhead (With base) label rest
           → Good (With t) rest → Good (With t) (sets word t ∷ acts (Branch condition label) (value ∷ t ∷ []) ∷ rest)
       compare_good word condition label rest ahead good =
@@ -227,7 +227,7 @@ module _ (base : ℕ) (bound : List ℕ) (has : HasRoom base bound) where
     here_readable t le = inr (le, omega arith)
 
     decide_good : (layout : Layout) (next value t : ℕ) (plain tagged : List Edge) (otherwise other : Option ℕ) (lines rest : List Line)
-        → base ≤ t → t + 3 ≤ base + 8 → With t value
+        → base ≤ t → t + 3 ≤ base + most_temporaries → With t value
         → DecideLines layout to next value t plain tagged otherwise other lines → EdgesAhead plain rest → EdgesAhead tagged rest
         → OtherAhead otherwise rest → OtherAhead other rest → Good (With t) rest → Good (With t) (lines ++ rest)
     decide_good layout next value t plain [] otherwise other lines rest le room readable is words tags out left good =
@@ -295,7 +295,7 @@ module _ (base : ℕ) (bound : List ℕ) (has : HasRoom base bound) where
     walked_readable x [] bound_x = inl bound_x
     walked_readable x (field ∷ way) bound_x = inr (omega arith, omega arith)
 
-    spare_low : (at : List ℕ) → base ≤ spare base at × (spare base at + 3 ≤ base + 8)
+    spare_low : (at : List ℕ) → base ≤ spare base at × (spare base at + 3 ≤ base + most_temporaries)
     spare_low [] = (omega arith, omega arith)
     spare_low (field ∷ way) = (omega arith, omega arith)
 

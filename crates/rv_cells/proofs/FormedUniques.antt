@@ -24,6 +24,7 @@ use Rattle.rv_cells.specs.CellLines.{Loads, Stores, AllLoads, dups_lines, drops_
 use Rattle.rv_cells.proofs.CellForms.{one_store, loads_lead, dups_lead, drops_lead}
 use Rattle.rv_cells.proofs.CellForms.{room_list, kept_list, bound_fields, bound_filter}
 use Rattle.rv_cells.proofs.FormedOrders.{listed_behind}
+use Rattle.rv_cells.specs.Layout.{first_field}
 
 assoc_inner : (a b c z : List Line) → (a ++ (b ++ c)) ++ z ≡ a ++ (b ++ (c ++ z))
 assoc_inner a b c z = append_assoc a (b ++ c) z ∙ ap (λ (t : List Line). a ++ t) (append_assoc b c z)
@@ -82,7 +83,7 @@ module _ (base : ℕ) (bound : List ℕ) (has : HasRoom base bound) (holds : ℕ
       }
 
   -- the way of a shared cell, where nothing else is done
-  pub lowered_leads : (loads : List Line) → AllLoads x 2 fields loads → (count store : Line) (less : Immediate)
+  pub lowered_leads : (loads : List Line) → AllLoads x first_field fields loads → (count store : Line) (less : Immediate)
       → Loads x 0 base count → Stores x 0 base store → Leads Before Taken (length fields + (1 + (1 + (1 + length kept))))
       (loads ++ (count ∷ computes (Op.Immediate Addi less) (base ∷ []) base ∷ store ∷ dups_lines holds kept))
   lowered_leads loads all_loads count store less loads_count stores =
@@ -92,7 +93,7 @@ module _ (base : ℕ) (bound : List ℕ) (has : HasRoom base bound) (holds : ℕ
   -- By what is bound behind it: the lines for a cell that nothing else refers to lead to a label ahead, past those of the way of a
   -- shared cell, and these lead there.
   module _ (behind outer : List ℕ) (goal : Goal) (low high : ℕ) (more : List Line)
-      (fits : Fits base behind outer goal (low + 2) high more) (loads : List Line) (all_loads : AllLoads x 2 fields loads)
+      (fits : Fits base behind outer goal (low + 2) high more) (loads : List Line) (all_loads : AllLoads x first_field fields loads)
       (ends : List Line) (ends_none : (l : ℕ) → HasNo l ends)
       (ends_good : (front tail : List Line) → HasNo (low + 1) front → HasNo (low + 2) front
       → Good (Readable base base behind) (more ++ tail) → AreFormed (front ++ (acts (Label (low + 1)) [] ∷ (more ++ tail)))

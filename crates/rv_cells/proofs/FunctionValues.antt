@@ -24,7 +24,7 @@ use Rattle.rv_lower.specs.Lines.{Texts, sets, acts}
 use Rattle.rv_lower.specs.Lowered.{Goal, returns, joins}
 use Rattle.rv_lower.specs.Written.{texts_of}
 use Rattle.rv_lower.proofs.ValueBounds.{handed_below, from_to_below, IsGoalBelow, goal_below, form_below}
-use Rattle.rv_lower.proofs.WellFormedness.{HasRoom, room_more}
+use Rattle.rv_lower.proofs.WellFormedness.{HasRoom, room_more, most_temporaries}
 use Rattle.rv_cells.specs.declared.compare.Branching.{Branching}
 use Rattle.rv_cells.specs.CellLines.{dup_lines, drop_lines, token_ends}
 use Rattle.rv_cells.specs.ComparisonBranch.{branch_of, branch_unless}
@@ -102,12 +102,12 @@ branch_below most (Call f) arguments joined below = tt
 module _ (setting : Setting) (marks : CellMarks) (result : Bool) (variables slots : ℕ) (base_is : setting.base ≡ variables + slots) where
   -- the variables, the slots, and eight temporaries
   abbrev most : ℕ
-  most = variables + slots + 8
+  most = variables + slots + most_temporaries
 
   abbrev Below : List Line → Type 0
   Below lines = AreLinesBelow most lines
 
-  room : setting.base + 8 ≤ most
+  room : setting.base + most_temporaries ≤ most
   room = omega (arith, base_is)
 
   base_less : setting.base < most
@@ -391,7 +391,7 @@ module _ (setting : Setting) (marks : CellMarks) (result : Bool) (variables slot
 function_below : (layout : Layout) (texts : Texts) (table : CellMarks) (f : ℕ) (function : TokenedFunction) (lines : Lines)
     → IsLowerable table f (bare_function function) → SpendsTokens [] [] [] function.body
     → (is : IsFunctionOf layout texts table f function lines)
-    → HasValuesBelow (is.lowered.variables + is.lowered.slots + 8) lines
+    → HasValuesBelow (is.lowered.variables + is.lowered.slots + most_temporaries) lines
 function_below layout texts table f function lines may spends is = (
   subst (AreValuesBelow most_here) (sym is.lowered.params)
       (from_to_below most_here 0 function.parameters (let few = is.few in omega (arith, few))),
@@ -409,7 +409,7 @@ function_below layout texts table f function lines may spends is = (
 )
   where
     most_here : ℕ
-    most_here = is.lowered.variables + is.lowered.slots + 8
+    most_here = is.lowered.variables + is.lowered.slots + most_temporaries
 
     has : HasRoom is.lowered.variables (numbers_from 0 function.parameters)
     has = record {
@@ -464,7 +464,7 @@ tokened_values_below shape code texts each lowerable spends form variables slots
     let fewest = one.2.fewest variables (few_variables f (bare_function function) there) in
     let least = one.2.least in
     let few = few_slots f function is in
-    let le : one.2.lowered.variables + one.2.lowered.slots + 8 ≤ most_values_of variables slots
+    let le : one.2.lowered.variables + one.2.lowered.slots + most_temporaries ≤ most_values_of variables slots
     = omega (arith, fewest, least, few) in (
       one.0,
       (one.1, (values_more _ _ one.0.params le below.0, lines_more _ _ one.0.code le below.1)),

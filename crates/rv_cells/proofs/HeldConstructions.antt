@@ -10,9 +10,7 @@ use Rattle.kk_counted.specs.Heaps.{Heap, busy}
 use Rattle.kk_counted.specs.Keeping.{values_of}
 use Rattle.kk_counted.specs.TokenKeeping.{chain_of, Lists, IsJudged, ListsAfter, AreKeptBy}
 use Rattle.kk_counted.specs.TokenMachine.{token_code_step, make_step, bound_to, token_at_end}
-use Rattle.kk_counted.specs.Lowerable.{AreBelow, AreNumbered}
-use Rattle.kk_counted.specs.BareForms.{bare}
-use Rattle.kk_counted.specs.Marks.{HasMark}
+use Rattle.kk_counted.specs.Lowerable.{AreBelow}
 use Rattle.kk_counted.specs.Spending.{AreApart}
 use Rattle.kk_counted.specs.TokenRuns.{is_quiet, AllLead}
 use Rattle.kk_counted.specs.TokenStates.{TokenJoin, TokenFrame, TokenConfiguration, TokenState}
@@ -35,8 +33,8 @@ use Rattle.rv_lower.proofs.FormEffects.{put_other}
 use Rattle.rv_cells.specs.Layout.{header_of}
 use Rattle.rv_cells.specs.CountedCells.{Owner, cell_of, in_hand, is_aside, with_owner, assign}
 use Rattle.rv_cells.specs.CellLines.{FillLines}
-use Rattle.rv_cells.specs.TokenedLines.{values_of_slots, CodeLines, HasSlots, HoldsNone, Keeps}
-use Rattle.rv_cells.proofs.BoundVariables.{within_itself, within_one}
+use Rattle.rv_cells.specs.TokenedLines.{values_of_slots, HoldsNone}
+use Rattle.rv_cells.proofs.BoundVariables.{within_itself}
 use Rattle.rv_cells.proofs.ConstructionLines.{IsMaking, made_spot}
 use Rattle.rv_cells.proofs.FillLines.{fill_cost, Fills}
 use Rattle.rv_cells.proofs.HeldFillLines.{AllSame, AreApartFrom, both_same, puts_same, tokens1, row, fills_free, fills_newest}
@@ -47,7 +45,7 @@ use Rattle.rv_cells.proofs.LineCosts.{most_moves, row_cost}
 use Rattle.rv_cells.proofs.Owners.{chosen_same, chosen_other}
 use Rattle.rv_cells.proofs.Runs.{turn_of, Runs, runs_then}
 use Rattle.rv_cells.proofs.Spots.{Spot, Known, Here, saved}
-use Rattle.rv_cells.proofs.Values.{HasValues, has_cell as carries_cell, among_by}
+use Rattle.rv_cells.proofs.Values.{HasValues, has_cell as carries_cell}
 use Rattle.rv_cells.proofs.Words.{hand_owned, aside_owned}
 use Rattle.rv_cells.proofs.TokenCells.{token_aside, cells_stay, cell_goes}
 use Rattle.rv_cells.proofs.TokenFields.{grown_words, grown_stays}
@@ -56,11 +54,11 @@ use Rattle.rv_cells.proofs.TokenRequestCells.{slots_below, AllKept, same_kept, n
 use Rattle.rv_cells.proofs.TokenRequestCells.{linked_behind, marked_more}
 use Rattle.rv_cells.proofs.TokenFrames.{slots_moved, slots_put, all_carried, all_wait_at}
 use Rattle.rv_cells.proofs.TokenLineCosts.{forms}
-use Rattle.rv_cells.proofs.TokenContinuations.{token_at, machine_at, StepsOn, seen_action, silent_builds, GoesTo, does_by, goes_on}
+use Rattle.rv_cells.proofs.TokenContinuations.{token_at, machine_at, StepsOn, seen_action, silent_builds, CodeBehind, does_by, goes_on}
 use Rattle.rv_cells.proofs.TokenContinuations.{kept_after}
 use Rattle.rv_cells.proofs.TokenRequests.{live_slots, Requested, by_free, by_own, by_older, by_none, requested}
 use Rattle.rv_cells.proofs.TokenRelation.{SlotIs, IsTokenCell, token_words, HaveSlotValues, HaveTokenCells, held_values, Lowering}
-use Rattle.rv_cells.proofs.TokenRelation.{target, setting, upper, lines_setting, known_of, AllWait, At, IsFitFrom}
+use Rattle.rv_cells.proofs.TokenRelation.{target, setting, upper, known_of, AllWait, At, IsFitFrom}
 use Rattle.rv_cells.proofs.TokenRelation.{by_lines}
 use Rattle.rv_cells.proofs.TokenContents.{none_stands}
 use Rattle.rv_cells.proofs.TokenTakes.{taken_from, none_held}
@@ -80,15 +78,9 @@ module _ (program : Lowering) (code : Tokened) (x c first : ℕ) (arguments kept
     pub quiet : is_quiet code ≡ false
     pub own : List Line
     pub more : List Line
-    pub behind : ℕ
-    pub lines : CodeLines (lines_setting program at.shape) at.shape.variables at.does.goal behind rest more at.does.placed.high
-    pub parts : at.does.placed.own ≡ own ++ more
-    pub part_is : GoesTo program code inner frames tokens input s fs left at rest own more behind lines
+    pub next : ℕ
+    pub behind : CodeBehind program code inner frames tokens input s fs left at rest own more next (x ∷ s.bound)
     pub variable : x < at.shape.variables
-    pub marked : HasMark program.marks at.shape.holds at.shape.result (x ∷ s.bound) at.does.given (bare rest)
-    pub numbered : AreNumbered at.shape.variables (x ∷ s.bound) (bare rest)
-    pub has : HasSlots at.shape.slots rest
-    pub keeps : Keeps at.shape.standing rest
     pub holds : HoldsNone at.shape.standing others
     pub none_held : at.lists.held ≡ []
     pub unspent : List ℕ
@@ -274,20 +266,9 @@ module _ (program : Lowering) (code : Tokened) (x c first : ℕ) (arguments kept
         function = made.2.function;
       })
       (record {
-        parts = a.parts;
-        low = a.behind;
-        lines = a.lines;
-        part_is = a.part_is;
+        low = a.next;
+        behind = a.behind;
         within = within_itself (x ∷ s.bound);
-        older = within_one x s.bound;
-        below = λ z is. elim (among_by x s.bound z is) [
-          | inl e ↦ (let low = a.variable in omega (arith, e, low))
-          | inr among ↦ at.has.below z among
-        ];
-        marked = a.marked;
-        numbered = a.numbered;
-        has = a.has;
-        keeps = a.keeps;
         judged = judged;
         cells = cells;
         stand = none_stands program.layout at.shape.standing to.address to.owners (after.slots n) others a.unspent a.holds
@@ -493,7 +474,7 @@ module _ (program : Lowering) (code : Tokened) (x c first : ℕ) (arguments kept
       let t0 = turn_of left s.frame fs s.world in
       let t1 : AsmTurn World Ending = ended (exited (number_of OfEnding.HeapFull)) world in
       let is : left ≡ a.own ++ rest_lines
-      = p.left_is ∙ ap (λ own. own ++ p.after) a.parts ∙ append_assoc a.own a.more p.after in
+      = p.left_is ∙ ap (λ own. own ++ p.after) a.behind.parts ∙ append_assoc a.own a.more p.after in
       does_by program idle start next [] t0 (ap (λ action. seen_action program action input) (a.asked no_room served)) fit
       (λ fits. by_lines program (a.steps + steps) (a.cost + cost) ((upper program).weight start) (saved s.heap) idle next t0 t1
       (subst (λ ls. Runs (target program) (a.cost + cost) (a.steps + steps) (turn_of ls s.frame fs s.world) t1) (sym is)

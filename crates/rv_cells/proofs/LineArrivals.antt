@@ -35,6 +35,7 @@ use Rattle.rv_lower.specs.Lines.{copies_to, acts}
 use Rattle.rv_isa.specs.AsmMachine.{AsmState, AsmTurn}
 use Rattle.rv_isa.specs.LinePlaces.{AsmIsAt}
 use Rattle.rv_isa.specs.Primitives.{go, stuck}
+use Rattle.rv_isa.specs.Numbers.{cell_size}
 use Rattle.cell_runtime.specs.World.{World}
 use Rattle.rv_cells.specs.Fitting.{IsFit}
 use Rattle.rv_cells.specs.CountedCells.{Owner, Follows}
@@ -82,7 +83,7 @@ no_act program environment x arms (Tokened.if_token y there absent) ahead is = a
 module _ (layout : Layout) (marks : CellMarks) (code : TokenedProgram) (constants : List (List ℕ)) (functions : List Lines)
     (lowered : IsTokenedLowered layout marks code constants functions)
     (lowerable : AreLowerable marks (bare_program code).functions) (main_first : code.main ≡ 0) (room : ℕ)
-    (fits_room : HasRoom room code) (pool : Pool) (depth first : ℕ) (input : List ℕ) (aligned : pool.first % 32 ≡ 0)
+    (fits_room : HasRoom room code) (pool : Pool) (depth first : ℕ) (input : List ℕ) (aligned : pool.first % cell_size ≡ 0)
     (some : 0 < pool.first) (bytes : All (λ byte. byte < 256) input)
     (fits : (n : ℕ) → IsFit layout (counted_after (roomy_cost room) (setting_on (bare_program code) pool depth) input n)) where
   abbrev low : Lowering
@@ -129,7 +130,7 @@ module _ (layout : Layout) (marks : CellMarks) (code : TokenedProgram) (constant
     is.spot.address,
     (
       is.spot.owners,
-      subst (λ heap. Follows pool layout is.spot.address is.spot.owners heap is.spot.world.cells) is.heap_is is.follows,
+      subst (λ heap. Follows pool layout is.spot.address is.spot.owners heap is.spot.world.cells) is.heap_is is.at.follows,
     ),
   )
 
@@ -274,7 +275,7 @@ module _ (layout : Layout) (marks : CellMarks) (code : TokenedProgram) (constant
       (copies_to (at.shape.variables + fills.y) fills.x ∷ acts (Jump at.does.placed.low) [] ∷ []) fills.after is.left no_part
       at.has.in_function fills.stands fills.left_is fills.place
       (has_cells_behind tokens_code environment inner c left_input at_turn is)
-      same (ap is_quiet (sym fills.code_is)) does
+      same (ap is_quiet (sym fills.fill.is)) does
       (λ m. subst (λ turn. state (lower low) m turn ≢ stuck) is.turn_is (never m)))
 
   -- so each turn that stands for a state at such a form
@@ -290,7 +291,7 @@ module _ (layout : Layout) (marks : CellMarks) (code : TokenedProgram) (constant
       (code_same (bare tokens_code) act own_environment environment _ joins same) loud does never
   at_control act environment joins (TokenControl.running tokens_code own_environment inner) c left_input at_turn (inr behind) same
       loud does never =
-      by behind.near (code_same (bare tokens_code) act own_environment environment _ joins same)
+      by behind.at.near (code_same (bare tokens_code) act own_environment environment _ joins same)
     where
       by : IsBehind (lowering layout marks code constants functions lowered room fits_room pool depth first input aligned some bytes
           fits) tokens_code inner c.frames c.tokens left_input behind.spot behind.fs behind.left

@@ -16,6 +16,10 @@ row_more (x ∷ xs) cost = let later = row_more xs cost in omega (arith, later)
 abbrev pub most_moves : ℕ
 most_moves = 2
 
+-- a branch to a label, and the label
+abbrev pub leading_cost : ℕ
+leading_cost = 2 * most_moves + 4
+
 -- the tests of a node: two lines an edge
 abbrev pub edges_cost : List Edge → ℕ
 edges_cost [] = 0

@@ -1,5 +1,5 @@
 -- The lines of a node of decisions lead to the label of the node that is chosen, or of the arm.
-use Rattle.std.proofs.Common.{◌≡◌, ◌⊎◌, inl, inr, ℕ, zero, suc, ◌+◌, ◌*◌, ◌%◌, ◌<◌, ◌≤◌, Bool, true, false, not, List, [], ◌∷◌, ◌++◌, length, filter, Option, Some, None, option_to_list, nat_eq, eqb-true, bit_and, refl, sym, ◌∙◌, ap, subst, arith, append_assoc}
+use Rattle.std.proofs.Common.{◌≡◌, ◌⊎◌, inl, inr, ℕ, zero, suc, ◌+◌, ◌*◌, ◌%◌, ◌<◌, ◌≤◌, Bool, true, false, not, List, [], ◌∷◌, ◌++◌, length, filter, Option, Some, None, option_to_list, nat_eq, eqb-true, bit_and, refl, sym, ◌∙◌, ap, subst, arith, append_assoc, ◌-◌}
 use Rattle.std.specs.Prelude.{if◌then◌else◌, cond, ℤ, option_map}
 use Rattle.cell_heap.specs.Blocks.{own}
 use Rattle.rv_isa.specs.declared.asm.Operation.TheVariants as Op
@@ -24,7 +24,7 @@ use Rattle.cell_runtime.specs.World.{World}
 use Rattle.rv_lower.specs.Lines.{computes, sets, acts}
 use Rattle.rv_lower.proofs.Labels.{found_label}
 use Rattle.rv_lower.proofs.FormEffects.{put_same, put_other}
-use Rattle.rv_cells.specs.Layout.{word_in, header_of}
+use Rattle.rv_cells.specs.Layout.{word_in, header_of, tag_values}
 use Rattle.rv_cells.specs.CellLines.{Loads, walked, spare, equal_lines, jump_lines, either_lines}
 use Rattle.rv_cells.specs.CountedLines.{is_plain, answer_word, answer_tag, number_tests, last_lines, ChoiceLines, OddLines, DecideLines, AreTried, TestLines}
 use Rattle.rv_cells.proofs.LineCosts.{most_moves, row_cost, edges_cost, edges_apart}
@@ -521,7 +521,7 @@ module _ (known : Known) (s : Spot) (fs : List (Frame Line)) (here : Here known 
     cell_leads : (name c : ℕ) (tagged : List Edge) (otherwise other : Option ℕ) (odd choice : List Line) (header : Line)
         (byte : Immediate) (values : ℕ → Option ℕ) → Shown name (Constructor c)
         → AllTell (answer_tag known.layout) (known.layout.tag c) found tagged → next_by tagged other found ≡ Some k
-        → OddLines value t to otherwise odd → Loads value 1 t header → byte.word ≡ 255
+        → OddLines value t to otherwise odd → Loads value 1 t header → byte.word ≡ tag_values - 1
         → ChoiceLines (answer_tag known.layout) to next t (t + 1) tagged other choice
         → values value ≡ Some (s.address name)
         → Leads t (5 * most_moves + 11 + edges_cost tagged)
@@ -566,7 +566,7 @@ module _ (known : Known) (s : Spot) (fs : List (Frame Line)) (here : Here known 
     tags_lead : (plain : List Edge) (edge : Edge) (edges : List Edge) (otherwise other : Option ℕ) (odd choice : List Line)
         (header : Line) (byte : Immediate) (values : ℕ → Option ℕ) (v : Value) → v ≡ w
         → Tells w found plain (edge ∷ edges) otherwise other k → next_by plain None found ≡ None
-        → OddLines value t to otherwise odd → Loads value 1 t header → byte.word ≡ 255
+        → OddLines value t to otherwise odd → Loads value 1 t header → byte.word ≡ tag_values - 1
         → ChoiceLines (answer_tag known.layout) to next t (t + 1) (edge ∷ edges) other choice
         → values value ≡ Some (word_in known.layout s.address v)
         → Leads t (5 * most_moves + 11 + edges_cost (edge ∷ edges))

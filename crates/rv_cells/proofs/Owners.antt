@@ -5,8 +5,9 @@ use Rattle.cell_heap.specs.Cells.{occurs}
 use Rattle.cell_heap.specs.Pool.{Pool}
 use Rattle.cell_heap.specs.Blocks.{Block, unused, own, kept, Cells, with_block}
 use Rattle.kk_counted.specs.Heaps.{Held, Heap, held_at, count_at}
-use Rattle.rv_cells.specs.Layout.{Layout, words_in}
+use Rattle.rv_cells.specs.Layout.{Layout, words_in, first_field}
 use Rattle.rv_cells.specs.CountedCells.{AreFrom, Owner, nobody, cell_of, in_hand, kept_aside, IsCellOf, BlockOf, HasChain, Follows, with_owner}
+use Rattle.rv_isa.specs.Numbers.{cell_size}
 
 -- ---- functions with another value at one number
 
@@ -56,7 +57,7 @@ cell_stays stays is = record {
   shows = record {
     count = is.shows.count;
     header = is.shows.header;
-    fields = subst (AreFrom is.words 2) (sym (stays.fields is.held is.there)) is.shows.fields;
+    fields = subst (AreFrom is.words first_field) (sym (stays.fields is.held is.there)) is.shows.fields;
     fits = is.shows.fits;
   };
 }
@@ -96,7 +97,7 @@ module _ {pool : Pool} {cells : Cells} (chain : HasChain pool cells) where
       → ((x : ℕ) → now.blocks x ≡ unused → cells.blocks x ≡ unused)
       → ((x : ℕ) → cells.blocks x ≡ unused → now.blocks x ≡ unused) → HasChain pool now
   chain_same now frees border less more = record {
-    aligned = subst (λ b. b % 32 ≡ 0) (sym border) chain.aligned;
+    aligned = subst (λ b. b % cell_size ≡ 0) (sym border) chain.aligned;
     behind = subst (λ b. pool.first ≤ b) (sym border) chain.behind;
     within = let old = chain.within in omega arith;
     fresh = λ x cell high. more x (chain.fresh x cell (omega (arith, border, high)));

@@ -34,7 +34,7 @@ use Rattle.rv_cells.specs.CellLines.{ConstructLines}
 use Rattle.rv_cells.specs.Layout.{FitFields, header_of}
 use Rattle.rv_cells.specs.CountedCells.{cell_of, kept_aside, is_aside, set_aside, with_owner, assign}
 use Rattle.rv_cells.proofs.CellActions.{put_in}
-use Rattle.rv_cells.proofs.BoundVariables.{within_itself, within_one, all_among, apart_above}
+use Rattle.rv_cells.proofs.BoundVariables.{within_itself, all_among, apart_above}
 use Rattle.rv_cells.proofs.ConstructionLines as Construct
 use Rattle.rv_cells.proofs.ConstructionLines.{IsMaking, made_spot, construct_cost, args_words, construct_did, full_did}
 use Rattle.rv_cells.proofs.HeldTokens.{take_older_runs}
@@ -51,7 +51,7 @@ use Rattle.rv_cells.proofs.TokenRequestCells.{named_before, slots_below, linked_
 use Rattle.rv_cells.proofs.TokenFields.{grown_words, grown_stays}
 use Rattle.rv_cells.proofs.TokenFrames.{none_behind, slots_moved, all_carried}
 use Rattle.rv_cells.proofs.TokenLineCosts.{forms}
-use Rattle.rv_cells.proofs.TokenContinuations.{Lands, lands_did, token_at, machine_at, StepsOn, CodeSteps, seen_action, silent_builds, does_by, goes_on, kept_after}
+use Rattle.rv_cells.proofs.TokenContinuations.{Lands, lands_did, token_at, machine_at, StepsOn, CodeSteps, seen_action, silent_builds, does_by, behind_one, goes_on, kept_after}
 use Rattle.rv_cells.proofs.TokenRequests.{Requested, by_free, by_own, by_older, by_none, requested}
 use Rattle.rv_cells.proofs.TokenRelation.{IsTokenCell, token_words, HaveSlotValues, HaveTokenCells, held_values, Lowering, target, setting, upper, known_of, AllWait, At, IsFitFrom, by_lines}
 use Rattle.rv_cells.proofs.TokenContents.{none_stands}
@@ -236,20 +236,10 @@ module _ (program : Lowering) (x c a : ℕ) (more : List ℕ) (rest : Tokened) (
       goes_on program code inner frames tokens input s fs left at idle fit rest p.lines.0 p.lines.1 to gs after (x ∷ s.bound)
       at.lists (construct_cost known (a ∷ more)) (builds (busy s.heap)) lands
       (record {
-        parts = p.lines.7;
         low = p.lines.2;
-        lines = p.lines.5;
-        part_is = record { way = 0 ∷ []; is_part = inl refl; code_is = refl };
+        behind = behind_one program code inner frames tokens input s fs left at x p.numbered.0 p.lines.7 p.lines.2 p.lines.5
+            (record { way = 0 ∷ []; is_part = inl refl; code_is = refl }) p.marked.1.1 p.numbered.1.1 p.has.1 p.keeps.1.1;
         within = within_itself (x ∷ s.bound);
-        older = within_one x s.bound;
-        below = λ z is. elim (among_by x s.bound z is) [
-          | inl e ↦ (let low = p.numbered.0 in omega (arith, e, low))
-          | inr among ↦ at.has.below z among
-        ];
-        marked = p.marked.1.1;
-        numbered = p.numbered.1.1;
-        has = p.has.1;
-        keeps = p.keeps.1.1;
         judged = judged;
         cells = cells_are;
         stand = none_stands program.layout at.shape.standing to.address to.owners (after.slots n) [] at.lists.unspent tt

@@ -13,7 +13,7 @@ use Rattle.rv_isa.specs.AsmCode.{Line}
 use Rattle.rv_isa.specs.Frames.{Frame, found}
 use Rattle.cell_runtime.specs.Operations.{compares}
 use Rattle.cell_runtime.specs.World.{World}
-use Rattle.rv_cells.specs.Layout.{Layout, word_in, words_in}
+use Rattle.rv_cells.specs.Layout.{Layout, word_in, words_in, first_field}
 use Rattle.rv_cells.specs.CountedCells.{AreFrom, Owner, Follows}
 use Rattle.rv_cells.specs.CellLines.{Loads, Walks, walked}
 use Rattle.rv_cells.proofs.NameContents.{some-is, held_count}
@@ -54,7 +54,7 @@ module _ (known : Known) (address : ℕ → ℕ) (owners : ℕ → Owner) (heap 
     (follows : Follows known.target.pool known.layout address owners heap world.cells) where
   -- the field of a value is loaded
   field_runs : (rest : List Line) (f : Frame Line) (from t field : ℕ) (v u : Value) (fields : List Value) (line : Line)
-      → Loads from (2 + field) t line → f.cells from ≡ Some (word_in known.layout address v)
+      → Loads from (first_field + field) t line → f.cells from ≡ Some (word_in known.layout address v)
       → fields_shown (cell_at heap) v ≡ Some fields → slice_get fields field ≡ Some u
       → Runs known.target (most_moves + 2) 1 (turn_of (line ∷ rest) f fs world)
       (turn_of rest (put_in t (word_in known.layout address u) f) fs world)
@@ -78,8 +78,10 @@ module _ (known : Known) (address : ℕ → ℕ) (owners : ℕ → Owner) (heap 
       let word = from_index known.layout address stands.words 2 field stands.held.cell.fields u stands.shows.fields
       (ap (λ ws. slice_get ws field) vs ∙ is) in
       let low = word.1 in
-      load_runs known.target rest f fs world from (2 + field) t (address name) (word_in known.layout address u) line loads has
-      (load_own world.cells (address name) (2 + field) (word_in known.layout address u) stands.words stands.is (omega arith) word.0)
+      load_runs known.target rest f fs world from (first_field + field) t (address name) (word_in known.layout address u) line loads
+      has
+      (load_own world.cells (address name) (first_field + field) (word_in known.layout address u) stands.words stands.is
+      (omega arith) word.0)
 
   -- what then has the value at the position has it, and all values but the temporary are as before
   pub walk_runs : (rest : List Line) (from t : ℕ) (way : List ℕ) (v w : Value) (lines : List Line) (f : Frame Line)

@@ -16,6 +16,7 @@ use Rattle.rv_cells.specs.CountedCells.{set_aside}
 use Rattle.rv_cells.specs.Steps.{Served, ServedByHeld}
 use Rattle.rv_cells.proofs.Owners.{chosen_by, chosen_same, chosen_other, own-unused, kept-unused, put_owner, chain_over}
 use Rattle.rv_cells.proofs.UsedCells.{used, used-most, used_busy}
+use Rattle.rv_isa.specs.Numbers.{cell_size}
 
 -- ---- sums of ones
 
@@ -41,7 +42,7 @@ is_cell pool at =
       | inr behind ↦
           elim (cases_lt at (end_of pool)) [
             | inl before ↦
-                elim (cases_eq (at % 32) 0) [
+                elim (cases_eq (at % cell_size) 0) [
                   | inl aligned ↦ inl (record { behind = behind; before = before; aligned = aligned })
                   | inr not ↦ inr (λ cell. not cell.aligned)
                 ]
@@ -116,8 +117,8 @@ module _ {pool : Pool} {layout : Layout} {address : ℕ → ℕ} {owners : ℕ �
             );
       }
 
-  chain_border : pool.first % 32 ≡ 0 → cells.frees ≡ [] → cells.border < end_of pool
-      → HasChain pool (takes cells.border [] (cells.border + 32) cells)
+  chain_border : pool.first % cell_size ≡ 0 → cells.frees ≡ [] → cells.border < end_of pool
+      → HasChain pool (takes cells.border [] (cells.border + cell_size) cells)
   chain_border aligned none room =
       let chain = follows.chain in
       let whole = chain.aligned in
@@ -127,7 +128,7 @@ module _ {pool : Pool} {layout : Layout} {address : ℕ → ℕ} {owners : ℕ �
         within = omega arith;
         fresh = λ x cell high. chosen_by (λ b. b ≡ unused) x cells.border (own nothing) cells.blocks (λ e. absurd (omega arith))
             (λ differ. chain.fresh x cell (omega (arith, high)));
-        chained = λ x. chosen_by (λ b. b ≡ unused → x < cells.border + 32 → occurs x [] ≡ 1) x cells.border
+        chained = λ x. chosen_by (λ b. b ≡ unused → x < cells.border + cell_size → occurs x [] ≡ 1) x cells.border
             (own nothing) cells.blocks
             (λ e free. absurd (own-unused free))
             (λ differ free low. elim (cases_lt x cells.border) [
@@ -142,7 +143,7 @@ module _ {pool : Pool} {layout : Layout} {address : ℕ → ℕ} {owners : ℕ �
 
   -- ---- whether there is one
 
-  module _ (aligned : pool.first % 32 ≡ 0) where
+  module _ (aligned : pool.first % cell_size ≡ 0) where
     all_used : cells.frees ≡ [] → end_of pool ≤ cells.border → busy heap + set_aside pool owners ≡ pool.cells
     all_used no_free high =
         sym (used_busy aligned follows)
@@ -191,10 +192,10 @@ module _ {pool : Pool} {layout : Layout} {address : ℕ → ℕ} {owners : ℕ �
             (omega arith) in
             record {
               at = cells.border;
-              next = takes cells.border [] (cells.border + 32) cells;
+              next = takes cells.border [] (cells.border + cell_size) cells;
               is = rw (no_free, test) refl;
               free = (free_is cells.border is).0;
-              holds = takes_free cells.border [] (cells.border + 32) is (chain_border aligned no_free low);
+              holds = takes_free cells.border [] (cells.border + cell_size) is (chain_border aligned no_free low);
             }
         by_border false test no_free =
             let high : end_of pool ≤ cells.border = grind (arith, nat_tests) in

@@ -20,7 +20,7 @@ use Rattle.rv_isa.specs.AsmCode.{Line}
 use Rattle.rv_isa.specs.Frames.{Frame}
 use Rattle.cell_heap.specs.Blocks.{Cells, own}
 use Rattle.cell_runtime.specs.World.{World}
-use Rattle.rv_cells.specs.Layout.{Layout, word_in, words_in, FitFields}
+use Rattle.rv_cells.specs.Layout.{Layout, word_in, words_in, FitFields, first_field}
 use Rattle.rv_cells.specs.CountedCells.{AreFrom, Owner}
 use Rattle.rv_cells.specs.CellLines.{AllLoads, ReadLines, dup_lines, drop_lines, dups_lines, drops_lines}
 use Rattle.rv_cells.proofs.NameContents.{some-is, held_within, held_other, held_count, held_fields}
@@ -103,8 +103,8 @@ read_did known rest fs s x c fields lines named here reads loads =
     let many = fits_length (known.layout.fields c) named.fields fits in
     let few = known.narrow.few c in
     let same_many : length named.fields ≡ length fields = ap length (sym made.fields) ∙ made.many in
-    let words : AreFrom stands.words 2 (words_in known.layout s.address named.fields) = subst
-    (λ us. AreFrom stands.words 2 (words_in known.layout s.address us)) vs stands.shows.fields in
+    let words : AreFrom stands.words first_field (words_in known.layout s.address named.fields) = subst
+    (λ us. AreFrom stands.words first_field (words_in known.layout s.address us)) vs stands.shows.fields in
     let length_is : length (words_in known.layout s.address named.fields) ≡ length named.fields = length-map named.fields
     (word_in known.layout s.address) in
     let low = held_within s.heap named.at made.held made.there in

@@ -22,7 +22,7 @@ use Rattle.rv_cells.proofs.HeldConstructions.{steps_asking}
 use Rattle.rv_cells.proofs.TokenFills.{making, Fill_steps, fill_cheap, fills_token}
 use Rattle.rv_cells.proofs.TokenFrames.{all_wait_at}
 use Rattle.rv_cells.proofs.TokenLineCosts.{forms}
-use Rattle.rv_cells.proofs.TokenContinuations.{token_at, machine_at, CodeSteps}
+use Rattle.rv_cells.proofs.TokenContinuations.{token_at, machine_at, behind_one, CodeSteps}
 use Rattle.rv_cells.proofs.TokenRelation.{SlotIs, Lowering, target, At, IsFitFrom}
 use Rattle.rv_cells.proofs.TokenUniques.{slots_set, another}
 
@@ -55,15 +55,10 @@ fills_null program x y c first arguments kept_at others rest idle inner frames t
       quiet = refl;
       own = p.lines.0;
       more = p.lines.1;
-      behind = p.low + 1;
-      lines = p.lines.3;
-      parts = p.lines.4;
-      part_is = record { way = 0 ∷ []; is_part = inl refl; code_is = refl };
+      next = p.low + 1;
+      behind = behind_one program code inner frames tokens input s fs left at x p.numbered.0 p.lines.4 (p.low + 1) p.lines.3
+          (record { way = 0 ∷ []; is_part = inl refl; code_is = refl }) p.marked.1.1 p.numbered.1.1 p.has.1.1 p.keeps.1;
       variable = p.numbered.0;
-      marked = p.marked.1.1;
-      numbered = p.numbered.1.1;
-      has = p.has.1.1;
-      keeps = p.keeps.1;
       holds = p.keeps.0;
       none_held = none_holds;
       unspent = without (y ∷ []) at.lists.unspent;

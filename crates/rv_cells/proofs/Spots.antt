@@ -13,8 +13,10 @@ use Rattle.rv_isa.specs.declared.routine.Routine.TheVariants.{Drop}
 use Rattle.rv_lower.specs.Lines.{copies_to, acts}
 use Rattle.rv_isa.specs.AsmCode.{Line}
 use Rattle.rv_isa.specs.Frames.{Frame}
+use Rattle.rv_isa.specs.Numbers.{cell_size}
 use Rattle.cell_heap.specs.Blocks.{Cells, merged_cells}
 use Rattle.cell_runtime.specs.World.{World, with_cells}
+use Rattle.cell_runtime.specs.Drops.{given_cost, freed_cost, most_drop_cost}
 use Rattle.rv_cells.specs.Layout.{Layout, IsNarrow, word_in, FitsField}
 use Rattle.rv_cells.specs.CountedCells.{Owner, nobody, cell_of, in_hand, kept_aside, Follows, still, still_count, is_aside}
 use Rattle.rv_cells.specs.CellLines.{dup_lines, drop_lines}
@@ -43,7 +45,7 @@ pub record Known : Type 0 where
   pub layout : Layout
   pub holds : ℕ → Bool
   pub base : ℕ
-  pub aligned : target.pool.first % 32 ≡ 0
+  pub aligned : target.pool.first % cell_size ≡ 0
   pub narrow : IsNarrow layout
 
 pub record Here (known : Known) (s : Spot) : Type 0 where
@@ -52,10 +54,10 @@ pub record Here (known : Known) (s : Spot) : Type 0 where
 
 -- what a heap has saved for drops
 abbrev pub saved : Heap → ℕ
-saved heap = 52 * busy heap + 8 * weight heap
+saved heap = freed_cost * busy heap + given_cost * weight heap
 
--- Lines lead from a spot to another, at this cost beyond what was saved. What is set aside stays so. Of the frame only values
--- change: those of variables that become bound, and temporaries.
+-- Lines lead from a spot to another, at this cost beyond what was saved. What is set aside stays so. The frame is in the same
+-- function and holds the same tokens, and of its values only these change: those of variables that become bound, and temporaries.
 pub record Did (known : Known) (most : ℕ) (lines rest : List Line) (fs : List (Frame Line)) (s t : Spot) : Type 0 where
   pub cost : ℕ
   pub steps : ℕ
@@ -67,11 +69,9 @@ pub record Did (known : Known) (most : ℕ) (lines rest : List Line) (fs : List 
   pub grown : (z : ℕ) → is_among t.bound z ≡ false → is_among s.bound z ≡ false
   pub spared : (z : ℕ) → z < known.base → is_among t.bound z ≡ false → t.frame.cells z ≡ s.frame.cells z
   pub left : t.world.left ≡ s.world.left
-  pub trace : t.world.trace ≡ s.world.trace
   pub whole : t.frame.whole ≡ s.frame.whole
   pub function : t.frame.function ≡ s.frame.function
   pub held : t.frame.held ≡ s.frame.held
-  pub into : t.frame.into ≡ s.frame.into
 
 -- Lines lead so where of the world they change the cells alone, and of the frame values alone.
 pub did_here : (known : Known) (most : ℕ) (lines rest : List Line) (fs : List (Frame Line)) (s t : Spot) (cost steps : ℕ)
@@ -94,11 +94,9 @@ did_here known most lines rest fs s t cost steps within runs here world_is frame
   grown = grown;
   spared = spared;
   left = ap (λ (w : World). w.left) world_is;
-  trace = ap (λ (w : World). w.trace) world_is;
   whole = ap (λ (f : Frame Line). f.whole) frame_is;
   function = ap (λ (f : Frame Line). f.function) frame_is;
   held = ap (λ (f : Frame Line). f.held) frame_is;
-  into = ap (λ (f : Frame Line). f.into) frame_is;
 }
 
 did_idle : (known : Known) (most : ℕ) (rest : List Line) (fs : List (Frame Line)) (s : Spot) → Here known s
@@ -131,11 +129,9 @@ did_then known most others lines more rest fs s t u first second =
       grown = λ z none. first.grown z (second.grown z none);
       spared = λ z low none. second.spared z low none ∙ first.spared z low (second.grown z none);
       left = second.left ∙ first.left;
-      trace = second.trace ∙ first.trace;
       whole = second.whole ∙ first.whole;
       function = second.function ∙ first.function;
       held = second.held ∙ first.held;
-      into = second.into ∙ first.into;
     }
 
 -- the same cells are set aside
@@ -325,8 +321,8 @@ module _ (known : Known) (rest : List Line) (fs : List (Frame Line)) (s : Spot) 
         merged_cells done.work s.world.cells,
         did_here known (2 * most_moves + 16) (copies_to x known.base ∷ acts (Calls Drop) (known.base ∷ []) ∷ []) rest fs s
             (record (with_heap s next (λ at. still next (s.owners at)) (merged_cells done.work s.world.cells)) { frame = copied })
-            ((most_moves + 2) + (8 * done.work.gave + 52 * done.work.freed + 8)) 2 (omega arith)
-            (runs_then known.target (most_moves + 2) (8 * done.work.gave + 52 * done.work.freed + 8) 1 1
+            ((most_moves + 2) + (most_drop_cost done.work.gave done.work.freed + (most_moves + 1))) 2 (omega arith)
+            (runs_then known.target (most_moves + 2) (most_drop_cost done.work.gave done.work.freed + (most_moves + 1)) 1 1
             (turn_of (copies_to x known.base ∷ acts (Calls Drop) (known.base ∷ []) ∷ rest) s.frame fs s.world)
             (turn_of (acts (Calls Drop) (known.base ∷ []) ∷ rest) copied fs s.world)
             (turn_of rest copied fs (with_cells s.world (merged_cells done.work s.world.cells))) first second)

@@ -2,7 +2,7 @@
 use Rattle.std.proofs.Common.{◌≡◌, ℕ, zero, suc, ◌+◌, ◌*◌, ◌≤◌, Bool, true, false, not, List, [], ◌∷◌, ◌++◌, length}
 use Rattle.std.proofs.Common.{Option, None, Some, option_to_list, nat_eq, length-append, ap, ◌∙◌, arith}
 use Rattle.std.specs.Prelude.{filter, if◌then◌else◌}
-use Rattle.kk_core.specs.CaseLengths.{node_length, tests_length}
+use Rattle.kk_core.specs.CaseLengths.{node_length, tests_length, choice_length, edge_length, way_length}
 use Rattle.kk_core.specs.Decisions.{NodeTree, chooses, tests}
 use Rattle.kk_core.specs.declared.decisions.Answer.{Answer}
 use Rattle.kk_core.specs.declared.decisions.Edge.{Edge}
@@ -16,34 +16,35 @@ use Rattle.rv_isa.specs.declared.asm.Operation.TheVariants as Op
 use Rattle.rv_cells.specs.CellLines.{Walks, walked, spare, equal_lines, jump_lines}
 use Rattle.rv_cells.specs.CountedLines.{is_plain, answer_word, answer_tag, Ways, number_tests, last_lines, ChoiceLines}
 use Rattle.rv_cells.specs.CountedLines.{OddLines, DecideLines, AreTried, first_lines, NodeLines, NodesLines}
-use Rattle.rv_cells.specs.Layout.{Layout}
+use Rattle.rv_cells.specs.Layout.{Layout, first_field}
 use Rattle.rv_cells.proofs.FormLengths.{lines_append, load_length}
 
 walk_length : (temporary value : ℕ) (way : List ℕ) (lines : List Line) → Walks temporary value way lines
-    → code_length lines ≡ 4 * length way
+    → code_length lines ≡ way_length * length way
 walk_length temporary value [] lines is = let empty = ap code_length is in omega (arith, empty)
 walk_length temporary value (field ∷ way) lines is =
     let whole = ap code_length is.4 in
-    let one = load_length value (2 + field) temporary is.0 is.2 in
+    let one = load_length value (first_field + field) temporary is.0 is.2 in
     let more = walk_length temporary temporary way is.1 is.3 in omega (arith, whole, one, more)
 
 numbers_length : (number : Answer → ℕ) (to : ℕ → ℕ) (value temporary : ℕ) (edges : List Edge)
-    → code_length (number_tests number to value temporary edges) ≤ 12 * length edges
+    → code_length (number_tests number to value temporary edges) ≤ edge_length * length edges
 numbers_length number to value temporary [] = omega arith
 numbers_length number to value temporary (edge ∷ edges) =
     let apart = lines_append (equal_lines value (number edge.found) temporary (to edge.next))
     (number_tests number to value temporary edges) in
     let more = numbers_length number to value temporary edges in omega (arith, apart, more)
 
-jump_length : (next label : ℕ) → code_length (jump_lines next label) ≤ 2
+jump_length : (next label : ℕ) → code_length (jump_lines next label) ≤ choice_length
 jump_length next label = by (nat_eq label next)
   where
-    by : (b : Bool) → code_length (if b then [] else (acts (Jump label) [] ∷ [])) ≤ 2
+    by : (b : Bool) → code_length (if b then [] else (acts (Jump label) [] ∷ [])) ≤ choice_length
     by true = omega arith
     by false = omega arith
 
 last_length : (number : Answer → ℕ) (to : ℕ → ℕ) (next value temporary : ℕ) (last : Option Edge) (other : Option ℕ)
-    → code_length (last_lines number to next value temporary last other) ≤ 12 * length (option_to_list last) + 2
+    → code_length (last_lines number to next value temporary last other)
+    ≤ edge_length * length (option_to_list last) + choice_length
 last_length number to next value temporary None None = omega arith
 last_length number to next value temporary None (Some other) = let jump = jump_length next (to other) in omega (arith, jump)
 last_length number to next value temporary (Some edge) None = omega arith
@@ -51,14 +52,15 @@ last_length number to next value temporary (Some edge) (Some other) = by (nat_eq
   where
     by : (b : Bool)
         → code_length (sets (number edge.found) temporary ∷ (if b then acts (Branch NotEqual (to other)) (value ∷ temporary ∷ []) ∷ []
-        else (acts (Branch Equal (to edge.next)) (value ∷ temporary ∷ []) ∷ jump_lines next (to other)))) ≤ 12 * 1 + 2
+        else (acts (Branch Equal (to edge.next)) (value ∷ temporary ∷ []) ∷ jump_lines next (to other))))
+        ≤ edge_length * 1 + choice_length
     by true = omega arith
     by false = let jump = jump_length next (to other) in omega (arith, jump)
 
-choice_length : (number : Answer → ℕ) (to : ℕ → ℕ) (next value temporary : ℕ) (edges : List Edge) (other : Option ℕ)
+chosen_length : (number : Answer → ℕ) (to : ℕ → ℕ) (next value temporary : ℕ) (edges : List Edge) (other : Option ℕ)
     (lines : List Line) → ChoiceLines number to next value temporary edges other lines
-    → code_length lines ≤ 12 * length edges + 2
-choice_length number to next value temporary edges other lines is =
+    → code_length lines ≤ edge_length * length edges + choice_length
+chosen_length number to next value temporary edges other lines is =
     let numbers : List Line = number_tests number to value temporary is.0 in
     let last : List Line = last_lines number to next value temporary is.1 other in
     let whole = ap code_length is.3 in
@@ -76,9 +78,9 @@ odd_length value temporary to (Some next) lines is = let whole = ap code_length 
 
 decide_length : (layout : Layout) (to : ℕ → ℕ) (next value temporary : ℕ) (plain tagged : List Edge) (otherwise other : Option ℕ)
     (lines : List Line) → DecideLines layout to next value temporary plain tagged otherwise other lines
-    → code_length lines ≤ 18 + 12 * length plain + 12 * length tagged
+    → code_length lines ≤ 18 + edge_length * length plain + edge_length * length tagged
 decide_length layout to next value temporary plain [] otherwise other lines is =
-    let choice = choice_length (answer_word layout) to next value temporary plain other lines is in omega (arith, choice)
+    let choice = chosen_length (answer_word layout) to next value temporary plain other lines is in omega (arith, choice)
 decide_length layout to next value temporary plain (edge ∷ edges) otherwise other lines is =
     let words : List Line = number_tests (answer_word layout) to value temporary plain in
     let loads : List Line = is.1 ∷ computes (Op.Immediate Andi is.2) (temporary ∷ []) temporary ∷ is.3 in
@@ -88,7 +90,7 @@ decide_length layout to next value temporary plain (edge ∷ edges) otherwise ot
     let worded = numbers_length (answer_word layout) to value temporary plain in
     let odd = odd_length value temporary to otherwise is.0 is.4 in
     let header = load_length value 1 temporary is.1 is.5 in
-    let choice = choice_length (answer_tag layout) to next temporary (temporary + 1) (edge ∷ edges) other is.3 is.7 in
+    let choice = chosen_length (answer_tag layout) to next temporary (temporary + 1) (edge ∷ edges) other is.3 is.7 in
     omega (arith, whole, first, second, worded, odd, header, choice)
 
 -- each edge is tested by its word or by its tag
@@ -118,7 +120,7 @@ tried_length words (edge ∷ edges) None plain tagged other are =
     let all : length (edge ∷ edges) ≡ length tagged + length (option_to_list are.1.0)
     = ap length are.1.1 ∙ length-append tagged (option_to_list are.1.0) in omega (arith, first, all)
 
-first_length : (ways : Ways) (k : ℕ) → code_length (first_lines ways k) ≤ 2
+first_length : (ways : Ways) (k : ℕ) → code_length (first_lines ways k) ≤ choice_length
 first_length ways zero = jump_length (ways.behind 0) (ways.to 0)
 first_length ways (suc k) = omega arith
 

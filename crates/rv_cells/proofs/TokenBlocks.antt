@@ -25,7 +25,7 @@ use Rattle.rv_cells.specs.CountedCells.{Owner, Follows}
 use Rattle.rv_cells.proofs.FormPlaces.{stands_behind, stands_behind_three}
 use Rattle.rv_cells.proofs.CellActions.{label_runs, falls_one_runs, branch_one_runs}
 use Rattle.rv_cells.proofs.FormWords.{has_same}
-use Rattle.rv_cells.proofs.LineCosts.{most_moves}
+use Rattle.rv_cells.proofs.LineCosts.{most_moves, leading_cost}
 use Rattle.rv_cells.proofs.Runs.{turn_of, Runs, runs_then}
 use Rattle.rv_cells.proofs.Spots.{Spot, saved}
 use Rattle.rv_cells.proofs.Words.{hand_owned, aside_owned}
@@ -115,7 +115,7 @@ module _ (program : Lowering) where
         (if is_token slot then present else absent) there
         → Runs (target program) cost n
         (turn_of (tests ++ ways) s.frame fs s.world) (turn_of there s.frame fs s.world)
-        → cost ≤ 8 → suc (forms (if is_token slot then present else absent)) ≤ idle
+        → cost ≤ leading_cost → suc (forms (if is_token slot then present else absent)) ≤ idle
         → Follows_step program idle
         (token_at program (Tokened.if_token y present absent) s.environment inner frames s.heap tokens input)
         (turn_of left s.frame fs s.world)

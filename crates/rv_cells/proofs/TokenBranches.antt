@@ -51,7 +51,7 @@ use Rattle.rv_cells.proofs.Comparisons.{drops_keep, drops_forms, IsJoined, joine
 use Rattle.rv_cells.proofs.FormPlaces.{Tree, tree, IsPart, StandsAt, arms_in, tree_behind, tree_in, stands_behind}
 use Rattle.rv_cells.proofs.FormPlaces.{stands_behind_three}
 use Rattle.rv_cells.proofs.FormWords.{number_word}
-use Rattle.rv_cells.proofs.LineCosts.{most_moves}
+use Rattle.rv_cells.proofs.LineCosts.{most_moves, leading_cost}
 use Rattle.rv_cells.proofs.UnnamedVariables.{first_spared, marked_without, numbered_fewer, drops_or_not}
 use Rattle.rv_cells.proofs.Runs.{turn_of, Runs, runs_none, runs_then, runs_within}
 use Rattle.rv_cells.proofs.Spots.{Spot, saved}
@@ -59,9 +59,9 @@ use Rattle.rv_cells.proofs.Values.{among_by, value_same}
 use Rattle.rv_cells.proofs.TokenCases.{ArmAt, arm_stands, arm_first, arm_part, arm_bare, arm_short, arm_numbered, arm_marked}
 use Rattle.rv_cells.proofs.TokenCases.{arm_slots, arm_keeps, tree_moved, case_there}
 use Rattle.rv_cells.proofs.TokenFills.{fills_behind}
-use Rattle.rv_cells.proofs.TokenContinuations.{machine_at, token_at, at_here, near_here, at_other, seen_action, does_by, kept_after}
+use Rattle.rv_cells.proofs.TokenContinuations.{machine_at, token_at, at_here, near_here, steps_at, at_other, seen_action, does_by, kept_after}
 use Rattle.rv_cells.proofs.TokenLineCosts.{forms}
-use Rattle.rv_cells.proofs.TokenRelation.{Lowering, target, texts, setting, upper, At, GivesUp, ComesTo, IsAhead, IsBehind, IsFilling, IsNear}
+use Rattle.rv_cells.proofs.TokenRelation.{Lowering, target, texts, setting, upper, At, GivesUp, ComesTo, IsAhead, IsBehind, IsFilling, Near, IsNear}
 use Rattle.rv_cells.proofs.TokenRelation.{MayStandFor, IsFitFrom, by_near, finds, Follows_step}
 
 -- ---- arms
@@ -208,7 +208,8 @@ module _ (program : Lowering) where
       let t0 = turn_of left s.frame fs s.world in
       let t1 = turn_of come.there s.frame fs s.world in
       does_by program idle start end [] t0 (ap (λ action. seen_action program action input) step) fit
-      (λ later. by_near program come.steps 8 ((upper program).weight start) (saved s.heap) idle end t0 t1 come.runs (omega arith)
+      (λ later. by_near program come.steps leading_cost ((upper program).weight start) (saved s.heap) idle end t0 t1 come.runs
+      (omega arith)
       (omega (arith, few, idle_is)) later (reached body inner frames tokens input s fs come.there holds come.stands))
 
   -- so is each step on the way to it
@@ -275,7 +276,8 @@ module _ (program : Lowering) where
       (turn_of left s.frame fs s.world)) (sym is.code_is)
       (gives_up_step is.y is.rest inner frames tokens input s fs left idle is.lists is.plain is.judged is.at) idle_is fit
   near_at code idle inner frames tokens input s fs left (inr (inr is)) idle_is fit =
-      let fill = Tokened.fill is.x is.y is.c is.first is.arguments is.kept is.others is.rest in
+      let f = is.fill in
+      let fill = Tokened.fill is.x is.y f.c f.first f.arguments f.kept f.others f.rest in
       path_j (λ (c : Tokened) (same : fill ≡ c). (at : At program c inner frames tokens input s fs is.there)
       → tokens.slots (length at.lists.older) is.y ≡ token is.q
       → left ≡ copies_to (at.shape.variables + is.y) is.x ∷ acts (Jump at.does.placed.low) [] ∷ is.after → idle ≡ forms c
@@ -285,9 +287,9 @@ module _ (program : Lowering) where
       (λ at has left_is same fits.
       subst (λ ls. Follows_step program idle (token_at program fill s.environment inner frames s.heap tokens input)
       (turn_of ls s.frame fs s.world)) (sym left_is)
-      (fills_behind program is.x is.y is.c is.first is.arguments is.kept is.others is.rest idle inner frames tokens input s fs
-      is.there same at fits is.q has is.after))
-      is.code_is is.at is.has is.left_is idle_is fit
+      (fills_behind program is.x is.y f.c f.first f.arguments f.kept f.others f.rest idle inner frames tokens input s fs is.there
+      same at fits is.q has is.after))
+      f.is is.at is.has is.left_is idle_is fit
 
   pub near_step : (code : Tokened) (environment : Environment) (inner : List TokenJoin) (frames : List TokenFrame) (heap : Heap)
       (tokens : Tokens) (input : List ℕ) (idle : ℕ) (t : AsmTurn World Ending) → idle ≡ forms code
@@ -295,21 +297,8 @@ module _ (program : Lowering) where
       → IsNear program code environment inner (machine_at program code environment inner frames heap tokens) input t
       → Follows_step program idle (token_at program code environment inner frames heap tokens input) t
   near_step code environment inner frames heap tokens input idle t idle_is fit is =
-      let s = is.spot in
-      let u = turn_of is.left s.frame is.fs s.world in
-      let second : IsFitFrom program (token_at program code s.environment inner frames s.heap tokens input)
-      → Follows_step program idle (token_at program code s.environment inner frames s.heap tokens input) u
-      = near_at code idle inner frames tokens input s is.fs is.left is.near idle_is in
-      let third : IsFitFrom program (token_at program code environment inner frames s.heap tokens input)
-      → Follows_step program idle (token_at program code environment inner frames s.heap tokens input) u
-      = subst (λ e. IsFitFrom program (token_at program code e inner frames s.heap tokens input)
-      → Follows_step program idle (token_at program code e inner frames s.heap tokens input) u) is.environment_is second in
-      let fourth : IsFitFrom program (token_at program code environment inner frames heap tokens input)
-      → Follows_step program idle (token_at program code environment inner frames heap tokens input) u
-      = subst (λ h. IsFitFrom program (token_at program code environment inner frames h tokens input)
-      → Follows_step program idle (token_at program code environment inner frames h tokens input) u) is.heap_is third in
-      subst (λ w. Follows_step program idle (token_at program code environment inner frames heap tokens input) w) (sym is.turn_is)
-      (fourth fit)
+      steps_at program (Near program code inner frames tokens input) code environment inner frames heap tokens input idle t is
+      (near_at code idle inner frames tokens input is.spot is.fs is.left is.at.near idle_is) fit
 
 -- ---- the comparison
 
@@ -450,9 +439,9 @@ module _ (program : Lowering) (x : ℕ) (operator : BinaryOperator) (a b : ℕ) 
     -- from the label the arm comes
     arm_runs : Runs (target program) (most_moves + 3) 1 (turn_of left s.frame fs s.world)
         (turn_of (label ∷ behind) s.frame fs s.world)
-        → Runs (target program) 8 2 (turn_of left s.frame fs s.world) (turn_of behind s.frame fs s.world)
+        → Runs (target program) leading_cost 2 (turn_of left s.frame fs s.world) (turn_of behind s.frame fs s.world)
     arm_runs runs =
-        runs_within (target program) ((most_moves + 3) + (most_moves + 0)) 8 2 (turn_of left s.frame fs s.world)
+        runs_within (target program) ((most_moves + 3) + (most_moves + 0)) leading_cost 2 (turn_of left s.frame fs s.world)
         (turn_of behind s.frame fs s.world) (omega arith)
         (runs_then (target program) (most_moves + 3) (most_moves + 0) 1 1 (turn_of left s.frame fs s.world)
         (turn_of (label ∷ behind) s.frame fs s.world) (turn_of behind s.frame fs s.world) runs
@@ -642,25 +631,17 @@ module _ (program : Lowering) (x : ℕ) (operator : BinaryOperator) (a b : ℕ) 
       let kept = kept_after program code inner frames tokens input s fs left at tt refl in
       does_by program idle start end [] t refl fit
       (λ later. by_near program 0 0 ((upper program).weight start) (saved s.heap) idle end t t (runs_none (target program) t)
-      (omega arith) (omega (arith, idle_is)) later (inr (record {
-        spot = later_spot;
-        fs = fs;
-        left = left;
-        environment_is = refl;
-        heap_is = refl;
-        turn_is = refl;
+      (omega arith) (omega (arith, idle_is)) later
+      (inr (near_here program rest inner frames tokens input later_spot fs left at.follows (inl (record {
+        x = x;
+        arms = arms;
+        test = verdict.test;
+        lists = at.lists;
+        ahead = all_ahead program later_spot.environment x arms (x ∷ s.bound) ys program.marks at.shape.holds at.shape.result
+            at.does.given plain_ys at.does.placed.marked.1.1 bound_fits;
+        truth_is = value_same x x value s.environment refl ∙ value_is;
         follows = at.follows;
-        near = inl (record {
-          x = x;
-          arms = arms;
-          test = verdict.test;
-          lists = at.lists;
-          ahead = all_ahead program later_spot.environment x arms (x ∷ s.bound) ys program.marks at.shape.holds at.shape.result
-              at.does.given plain_ys at.does.placed.marked.1.1 bound_fits;
-          truth_is = value_same x x value s.environment refl ∙ value_is;
-          follows = at.follows;
-          judged = subst (λ (l : Lists). IsJudged program.pool.cells l.left l.unspent l.held l.older rest inner frames s.heap
-              tokens) kept.1.0 kept.1.1;
-          comes = comes_by verdict.test verdict.opposite;
-        });
-      })))
+        judged = subst (λ (l : Lists). IsJudged program.pool.cells l.left l.unspent l.held l.older rest inner frames s.heap tokens)
+            kept.1.0 kept.1.1;
+        comes = comes_by verdict.test verdict.opposite;
+      })))))

@@ -46,7 +46,7 @@ use Rattle.rv_cells.proofs.Spots.{Spot, saved}
 use Rattle.rv_cells.proofs.TokenRelation.{Placed, SlotIs, HaveSlotValues, HaveTokenCells, held_values, Shape, Lowering, target, texts, setting, upper, pace, root_in, IsRootOf, HasFrame, AllWait, At, by_lines, Follows_step}
 use Rattle.rv_cells.proofs.TokenFrames.{slots_moved, as_many_wait}
 use Rattle.rv_cells.proofs.BoundVariables.{within_one, all_among}
-use Rattle.rv_cells.proofs.TokenContinuations.{token_at, does_behind, CodeSteps, seen_action, does_by, kept_after}
+use Rattle.rv_cells.proofs.TokenContinuations.{token_at, at_here, does_behind, CodeSteps, seen_action, does_by, kept_after}
 
 -- ---- arguments and parameters
 
@@ -417,18 +417,11 @@ module _ (program : Lowering) where
                 (temporaries base arguments) ws lines entry_at.values behind
                 reads low.1 entry_at.is x d))
                 (omega arith) (omega (arith, few, paces)) later
-                (record {
-                  spot = to;
-                  fs = f2 ∷ fs;
-                  left = lines.code;
-                  environment_is = refl;
-                  heap_is = refl;
-                  turn_is = refl;
-                  at = body_at s at.shape slots at.lists.held at.has f arguments all p.marked.1.0.0 function lines of low.1 there.1
-                      (function, (there.1, refl)) (waiting ∷ frames) tokens (at.lists.held ∷ at.lists.older) input (f2 ∷ fs) judged
-                      (λ y. at.judged.are.beyond (suc (length at.lists.older)) y (omega arith)) at.follows at.cells waits at.input_is
-                      at.bytes;
-                }))
+                (at_here program
+                (body_at s at.shape slots at.lists.held at.has f arguments all p.marked.1.0.0 function lines of low.1 there.1
+                (function, (there.1, refl)) (waiting ∷ frames) tokens (at.lists.held ∷ at.lists.older) input (f2 ∷ fs) judged
+                (λ y. at.judged.are.beyond (suc (length at.lists.older)) y (omega arith)) at.follows at.cells waits at.input_is
+                at.bytes)))
           ] test depth_is
         where
           not_well : stack_full ≡ well → ⊥
@@ -493,17 +486,9 @@ module _ (program : Lowering) where
       (λ later. by_lines program (length arguments + 1) (row_cost arguments (m + 2) + last_cost) ((upper program).weight start)
       (saved s.heap)
       idle next t0 t2 runs (omega arith) (omega (arith, idle_is, few, paces)) later
-      (record {
-        spot = to;
-        fs = fs;
-        left = lines.code;
-        environment_is = refl;
-        heap_is = refl;
-        turn_is = refl;
-        at = body_at s at.shape slots at.lists.held at.has f arguments all p.marked.1.0 function lines of low.1 there.1
-            (function, (there.1, refl)) frames tokens
-            at.lists.older input fs judged
-            (λ y. not_unspent (slots y) (at.judged.slots_are y ∙ at.judged.spends.1 y)) at.follows at.cells
-            (subst (AllWait program s.address (length s.heap) tokens.slots at.lists.older frames fs) (sym p.marked.1.1) at.waits)
-            at.input_is at.bytes;
-      }))
+      (at_here program
+      (body_at s at.shape slots at.lists.held at.has f arguments all p.marked.1.0 function lines of low.1 there.1
+      (function, (there.1, refl)) frames tokens at.lists.older input fs judged
+      (λ y. not_unspent (slots y) (at.judged.slots_are y ∙ at.judged.spends.1 y)) at.follows at.cells
+      (subst (AllWait program s.address (length s.heap) tokens.slots at.lists.older frames fs) (sym p.marked.1.1) at.waits)
+      at.input_is at.bytes)))

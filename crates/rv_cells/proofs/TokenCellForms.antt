@@ -74,17 +74,19 @@ module _ (program : Lowering) where
         goes_on program code inner frames tokens input s fs left at idle fit rest own more to fs tokens later at.lists most tells
         (lands_did did)
         (record {
-          parts = parts;
           low = low;
-          lines = lines;
-          part_is = part_is;
+          behind = record {
+            parts = parts;
+            lines = lines;
+            part_is = part_is;
+            older = older;
+            below = λ x is. below x (within x is);
+            marked = marked_is;
+            numbered = numbered;
+            has = has;
+            keeps = keeps;
+          };
           within = within;
-          older = older;
-          below = λ x is. below x (within x is);
-          marked = marked_is;
-          numbered = numbered;
-          has = has;
-          keeps = keeps;
           judged = judged;
           cells = cells_stay at.cells to.address to.owners to.heap (λ f y p is. same p)
               (λ f y p is. ap (λ (g : ℕ → ℕ). token_words program.layout g to.heap p) (sym address_is)

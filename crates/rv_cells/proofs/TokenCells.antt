@@ -1,6 +1,7 @@
 -- The cells of tokens, once owners change: a token is held or taken back, it goes, or one comes.
 use Rattle.std.proofs.Common.{◌≡◌, ◌≢◌, ℕ, ◌%◌, ◌<◌, ◌==◌, Bool, true, false, List, length, refl, sym, ◌∙◌, ap, subst, arith, eqb-true}
 use Rattle.rv_isa.specs.Arithmetic.{bit_of}
+use Rattle.rv_isa.specs.Numbers.{cell_size}
 use Rattle.cell_heap.specs.Pool.{Pool, IsCell}
 use Rattle.cell_heap.specs.Blocks.{Cells}
 use Rattle.kk_counted.specs.Heaps.{Heap}
@@ -49,7 +50,7 @@ module _ {pool : Pool} {layout : Layout} {address : ℕ → ℕ} {owners : ℕ �
   differs f y p g z q one two other e = other (have.apart g z q f y p two one e)
 
   -- a token is held, or taken back
-  pub cell_turns : pool.first % 32 ≡ 0 → (f y p : ℕ) (owner : Owner) (links : List Link) → IsCell pool (address p)
+  pub cell_turns : pool.first % cell_size ≡ 0 → (f y p : ℕ) (owner : Owner) (links : List Link) → IsCell pool (address p)
       → tokens.marks p ≡ token_of f y → IsTokenCell (is_linked f y links) (token_words layout address heap p) owner
       → ((g z q : ℕ) → q ≢ p → tokens.marks q ≡ token_of g z → is_linked g z links ≡ is_linked g z tokens.chain)
       → HaveTokenCells pool layout address (with_owner (address p) owner owners) heap (record tokens { chain = links })
@@ -86,7 +87,7 @@ module _ {pool : Pool} {layout : Layout} {address : ℕ → ℕ} {owners : ℕ �
           (have.are g z q marked_q))
 
   -- A token goes: its cell is not set aside any more. The other cells that are set aside stay so, and as many names are marked.
-  pub cell_goes : pool.first % 32 ≡ 0 → (f y p : ℕ) (later : ℕ → ℕ) (others : ℕ → Owner) (next : Heap) (after : Tokens)
+  pub cell_goes : pool.first % cell_size ≡ 0 → (f y p : ℕ) (later : ℕ → ℕ) (others : ℕ → Owner) (next : Heap) (after : Tokens)
       → IsCell pool (address p) → p < length heap → tokens.marks p ≡ token_of f y → after.marks ≡ marks_with p plain tokens.marks
       → ((g z q : ℕ) → q ≢ p → tokens.marks q ≡ token_of g z → later q ≡ address q)
       → ((g z q : ℕ) → tokens.marks q ≡ token_of g z → token_words layout later next q ≡ token_words layout address heap q)
@@ -134,7 +135,8 @@ module _ {pool : Pool} {layout : Layout} {address : ℕ → ℕ} {owners : ℕ �
           )
 
   -- A token comes: a cell that was not set aside is in hand.
-  pub cell_comes : pool.first % 32 ≡ 0 → (f y p : ℕ) (others : ℕ → Owner) (next : Heap) (after : Tokens) → IsCell pool (address p)
+  pub cell_comes : pool.first % cell_size ≡ 0 → (f y p : ℕ) (others : ℕ → Owner) (next : Heap) (after : Tokens)
+      → IsCell pool (address p)
       → p < length heap → tokens.marks p ≡ plain → after.marks ≡ marks_with p (token_of f y) tokens.marks
       → after.chain ≡ tokens.chain → length next ≡ length heap
       → ((q : ℕ) → token_words layout address next q ≡ token_words layout address heap q)
@@ -204,7 +206,7 @@ module _ {pool : Pool} {layout : Layout} {address : ℕ → ℕ} {owners : ℕ �
 
 -- where as many as none are set aside, none is
 pub none_by_number : {pool : Pool} {layout : Layout} {address : ℕ → ℕ} {owners : ℕ → Owner} {heap : Heap} {cells : Cells}
-    → pool.first % 32 ≡ 0 → Follows pool layout address owners heap cells → set_aside pool owners ≡ 0 → NoneAside owners
+    → pool.first % cell_size ≡ 0 → Follows pool layout address owners heap cells → set_aside pool owners ≡ 0 → NoneAside owners
 none_by_number {pool} {layout} {address} {owners} {heap} {cells} aligned stands none = λ at. by at (owners at) refl
   where
     taken : (at : ℕ) → IsCell pool at → is_aside (owners at) ≡ true → ⊥

@@ -1,9 +1,10 @@
 -- The assembler code of code with tokens is short: it is no longer than that code tells, since its words are no more than that.
 use Rattle.std.proofs.Common.{◌≡◌, ℕ, suc, ◌+◌, ◌*◌, ◌≤◌, Bool, List, [], ◌∷◌, ◌++◌, length, Some, refl, sym, subst, arith}
 use Rattle.std.specs.Prelude.{slice_get}
-use Rattle.kk_base.specs.Limits.{greatest_of}
 use Rattle.kk_base.specs.declared.limit.LimitKind.TheVariants.{Fields}
+use Rattle.kk_base.specs.Limits.{greatest_of}
 use Rattle.kk_core.specs.CodeNodes.{form_words}
+use Rattle.kk_core.specs.Sizes.{most_parameters}
 use Rattle.kk_counted.specs.BareForms.{bare, bare_arms, bare_function, bare_program}
 use Rattle.kk_counted.specs.Lengths.{form_length}
 use Rattle.kk_counted.specs.Lowerable.{HasArity, HasArities, HaveArities, AreLowerable}
@@ -28,6 +29,7 @@ use Rattle.rv_cells.specs.Tables.{table_of, layout_in}
 use Rattle.rv_cells.specs.TokenedLowered.{IsTokenedForm}
 use Rattle.rv_cells.proofs.TokenCodeWords.{tokened_programs_few}
 use Rattle.rv_cells.proofs.TokenFormedFunctions.{bare_at}
+use Rattle.rv_lower.specs.Written.{most_print}
 
 -- variables are as many as the marks that they have
 marks_many : (holds : ℕ → Bool) (xs : List ℕ) (marks : List Bool) → HaveMarks holds xs marks → length xs ≡ length marks
@@ -121,7 +123,7 @@ module _ (holds : ℕ → Bool) (table : CellMarks) (narrow : (c : ℕ) → leng
 all_short : (functions : List TokenedFunction)
     → ((f : ℕ) (function : TokenedFunction) → slice_get functions f ≡ Some function
     → tokened_words function.body ≤ tokened_length function.body)
-    → 8 * length functions + all_tokened_words functions ≤ tokened_functions_length functions
+    → most_parameters * length functions + all_tokened_words functions ≤ tokened_functions_length functions
 all_short [] are = omega arith
 all_short (function ∷ functions) are =
     let own = are 0 function refl in
@@ -181,7 +183,7 @@ pub tokened_programs_short : (shape : Shape) (code : TokenedProgram) (texts : Li
     → AreLowerable (table_of shape) (bare_program code).functions → AreTokensSpent code
     → IsTokenedForm shape code.texts code.functions each texts → IsNarrow (layout_in shape)
     → (functions_length each ≤ tokened_functions_length code.functions)
-    × (length (all_bytes texts) ≤ 256 * all_tokened_computes code.functions)
+    × (length (all_bytes texts) ≤ most_print * all_tokened_computes code.functions)
 tokened_programs_short shape code texts each lowerable spends form narrow =
     let words = tokened_programs_few shape code texts each lowerable spends form in
     let lengths = all_short code.functions short in

@@ -1,10 +1,11 @@
--- The assembler code of code with tokens takes few words: no more than that code tells, and 64 fewer for each string.
+-- The assembler code of code with tokens takes few words: no more than that code tells, and those of its strings fewer.
 use Rattle.std.proofs.Common.{◌≡◌, ℕ, suc, ◌+◌, ◌*◌, ◌≤◌, inl, inr, false, List, [], ◌∷◌, length, Some, None, Option}
 use Rattle.std.proofs.Common.{refl, sym, ap, subst, arith}
 use Rattle.std.specs.Prelude.{slice_get}
 use Rattle.kk_core.specs.Decisions.{NodeTree}
 use Rattle.kk_core.specs.CaseLengths.{tests_length}
-use Rattle.kk_core.specs.CodeNodes.{form_words}
+use Rattle.kk_core.specs.CodeNodes.{form_words, string_words, case_words}
+use Rattle.kk_core.specs.Sizes.{most_parameters}
 use Rattle.kk_counted.specs.BareForms.{bare, bare_arms, bare_function, bare_program}
 use Rattle.kk_counted.specs.Lowerable.{HasArity, HasArities, HaveArities, IsLowerable, AreLowerable}
 use Rattle.kk_counted.specs.Marks.{CellMarks}
@@ -46,7 +47,7 @@ values_many variables [] = omega arith
 values_many variables (y ∷ slots) = let more = values_many variables slots in omega (arith, more)
 
 -- the words of a form have room for those of its string
-string_fits : (form : Form) (arguments : List ℕ) → 64 * prints_in_form form ≤ form_words form arguments
+string_fits : (form : Form) (arguments : List ℕ) → string_words * prints_in_form form ≤ form_words form arguments
 string_fits (Number value) arguments = omega arith
 string_fits Nothing arguments = omega arith
 string_fits ReadByte arguments = omega arith
@@ -61,12 +62,12 @@ module _ (setting : Setting) (variables : ℕ) where
   -- Lines are few for a code: they and its strings take no more words than it tells. How the code spends its tokens tells that both
   -- copies behind a test of a token have the same bare form.
   abbrev AreFew : Tokened → List Line → Type 0
-  AreFew code lines = code_length lines + 64 * tokened_prints code ≤ tokened_words code
+  AreFew code lines = code_length lines + string_words * tokened_prints code ≤ tokened_words code
 
   -- the lines of a form on values, also where it asks for a cell while other tokens are held
   ask_few : (low x : ℕ) (form : Form) (arguments others : List ℕ) (own : List Line) (middle : ℕ) → HasArity form arguments
       → AskLines setting variables low x form arguments others own middle
-      → code_length own + 64 * prints_in_form form ≤ form_words form arguments + other_length * length others
+      → code_length own + string_words * prints_in_form form ≤ form_words form arguments + other_length * length others
   ask_few low x form arguments others own middle arity is =
       elim (ask_either setting variables low x form arguments others own middle is) [
         | inl plain ↦ (let few = form_few setting x form arguments own arity plain.0 in omega (arith, few))
@@ -86,14 +87,14 @@ module _ (setting : Setting) (variables : ℕ) where
   -- so are they where the case behind a comparison does its work, and is a branch then
   own_few : (branch : Option Branching) (low x : ℕ) (form : Form) (arguments others : List ℕ) (own : List Line) (middle : ℕ)
       → HasArity form arguments → OwnLines branch setting variables low x form arguments others own middle
-      → code_length own + 64 * prints_in_form form ≤ form_words form arguments + other_length * length others
+      → code_length own + string_words * prints_in_form form ≤ form_words form arguments + other_length * length others
   own_few None low x form arguments others own middle arity is = ask_few low x form arguments others own middle arity is
   own_few (Some branch) low x form arguments others own middle arity is =
       let whole = ap code_length is.0 in
       let fits = string_fits form arguments in omega (arith, whole, fits)
 
   choice_few : (branch : Option Branching) (nodes arms x : ℕ) (decisions : List NodeTree) (choice : List Line)
-      → CaseLines branch setting nodes arms x decisions choice → code_length choice ≤ tests_length decisions + 5
+      → CaseLines branch setting nodes arms x decisions choice → code_length choice ≤ tests_length decisions + case_words
   choice_few None nodes arms x decisions choice is =
       let short = nodes_short setting.layout setting.base nodes (ways_of decisions nodes arms) x 0 decisions choice is in
       omega (arith, short)
@@ -203,7 +204,7 @@ module _ (setting : Setting) (variables : ℕ) where
     arms_few : (arms : TokenedArms) (goal : Goal) (label low high : ℕ) (lines : List Line) (left unspent : List ℕ)
         → HaveArities (bare_arms arms) → SpendAllTokens left unspent arms
         → ArmsLines setting variables goal label low arms lines high
-        → code_length lines + 64 * tokened_arms_prints arms ≤ tokened_arms_words arms
+        → code_length lines + string_words * tokened_arms_prints arms ≤ tokened_arms_words arms
     arms_few TokenedArms.no_arm goal label low high lines left unspent arities spends is =
         let whole = ap code_length is.0 in omega (arith, whole)
     arms_few (TokenedArms.arm body rest) goal label low high lines left unspent arities spends is =
@@ -215,11 +216,12 @@ module _ (setting : Setting) (variables : ℕ) where
 
 -- ---- functions
 
--- A function's lines and its strings take 8 words, for its parameters, and those of its body.
+-- A function's lines and its strings take a word for each parameter that it may have, and those of its body.
 function_few : (layout : Layout) (texts : Texts) (table : CellMarks) (f : ℕ) (function : TokenedFunction) (lines : Lines)
     → IsLowerable table f (bare_function function) → SpendsTokens [] [] [] function.body
     → IsFunctionOf layout texts table f function lines
-    → length lines.params + code_length lines.code + 64 * tokened_prints function.body ≤ 8 + tokened_words function.body
+    → length lines.params + code_length lines.code + string_words * tokened_prints function.body
+    ≤ most_parameters + tokened_words function.body
 function_few layout texts table f function lines may spends is =
     let base : ℕ = is.lowered.variables + is.lowered.slots in
     let setting : Setting
@@ -235,15 +237,17 @@ function_few layout texts table f function lines may spends is =
 all_few : (functions : List TokenedFunction) (each : List Lines) → length each ≡ length functions
     → ((f : ℕ) (function : TokenedFunction) → slice_get functions f ≡ Some function
     → (lines : Lines) × ((slice_get each f ≡ Some lines)
-    × (length lines.params + code_length lines.code + 64 * tokened_prints function.body ≤ 8 + tokened_words function.body)))
-    → functions_length each + 64 * all_tokened_prints functions ≤ 8 * length functions + all_tokened_words functions
+    × (length lines.params + code_length lines.code + string_words * tokened_prints function.body
+    ≤ most_parameters + tokened_words function.body)))
+    → functions_length each + string_words * all_tokened_prints functions
+    ≤ most_parameters * length functions + all_tokened_words functions
 all_few [] [] same are = omega arith
 all_few [] (lines ∷ each) same are = absurd (omega (arith, same))
 all_few (function ∷ functions) [] same are = absurd (omega (arith, same))
 all_few (function ∷ functions) (lines ∷ each) same are =
     let own = are 0 function refl in
-    let one = subst (λ (other : Lines). length other.params + code_length other.code + 64 * tokened_prints function.body
-    ≤ 8 + tokened_words function.body) (found own.0 own.1.0) own.1.1 in
+    let one = subst (λ (other : Lines). length other.params + code_length other.code + string_words * tokened_prints function.body
+    ≤ most_parameters + tokened_words function.body) (found own.0 own.1.0) own.1.1 in
     let more = all_few functions each (omega (arith, same)) (λ f other is. are (suc f) other is) in omega (arith, one, more)
   where
     found : (other : Lines) → Some lines ≡ Some other → other ≡ lines
@@ -253,13 +257,14 @@ all_few (function ∷ functions) (lines ∷ each) same are =
 pub tokened_programs_few : (shape : Shape) (code : TokenedProgram) (texts : List (List ℕ)) (each : List Lines)
     → AreLowerable (table_of shape) (bare_program code).functions → AreTokensSpent code
     → IsTokenedForm shape code.texts code.functions each texts
-    → functions_length each + 64 * all_tokened_prints code.functions
-    ≤ 8 * length code.functions + all_tokened_words code.functions
+    → functions_length each + string_words * all_tokened_prints code.functions
+    ≤ most_parameters * length code.functions + all_tokened_words code.functions
 tokened_programs_few shape code texts each lowerable spends form = all_few code.functions each form.as_many few
   where
     few : (f : ℕ) (function : TokenedFunction) → slice_get code.functions f ≡ Some function
         → (lines : Lines) × ((slice_get each f ≡ Some lines)
-        × (length lines.params + code_length lines.code + 64 * tokened_prints function.body ≤ 8 + tokened_words function.body))
+        × (length lines.params + code_length lines.code + string_words * tokened_prints function.body
+        ≤ most_parameters + tokened_words function.body))
     few f function is =
         let one = form.lowered f function is in
         let own = function_few (layout_in shape) (texts_of code.texts texts) (table_of shape) f function one.0

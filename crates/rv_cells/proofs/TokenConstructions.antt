@@ -23,7 +23,7 @@ use Rattle.rv_cells.proofs.Values.{has_other}
 use Rattle.rv_cells.proofs.HeldConstructions.{steps_asking}
 use Rattle.rv_cells.proofs.PlainConstructions.{making_of, at_construct}
 use Rattle.rv_cells.proofs.TokenFrames.{slots_moved}
-use Rattle.rv_cells.proofs.TokenContinuations.{machine_at, CodeSteps}
+use Rattle.rv_cells.proofs.TokenContinuations.{machine_at, behind_one, CodeSteps}
 use Rattle.rv_cells.proofs.TokenRelation.{Lowering, target}
 use Rattle.rv_cells.proofs.TokenUniques.{row_times}
 
@@ -56,15 +56,10 @@ at_asked program x c a more other others rest idle inner frames tokens input s f
       quiet = refl;
       own = p.lines.0;
       more = p.lines.1;
-      behind = p.lines.2;
-      lines = p.lines.5;
-      parts = p.lines.7;
-      part_is = record { way = 0 ∷ []; is_part = inl refl; code_is = refl };
+      next = p.lines.2;
+      behind = behind_one program code inner frames tokens input s fs left at x p.numbered.0 p.lines.7 p.lines.2 p.lines.5
+          (record { way = 0 ∷ []; is_part = inl refl; code_is = refl }) p.marked.1.1 p.numbered.1.1 p.has.1 p.keeps.1.1;
       variable = p.numbered.0;
-      marked = p.marked.1.1;
-      numbered = p.numbered.1.1;
-      has = p.has.1;
-      keeps = p.keeps.1.1;
       holds = p.keeps.1.0;
       none_held = none_holds;
       unspent = at.lists.unspent;

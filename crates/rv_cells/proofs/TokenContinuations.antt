@@ -1,5 +1,5 @@
 -- Lines of one form lead to those of the code behind it, in the same function: what is to be shown of the place where it goes on.
-use Rattle.std.proofs.Common.{◌≡◌, ℕ, suc, ◌+◌, ◌<◌, ◌≤◌, ◌⊎◌, true, false, List, [], ◌∷◌, ◌++◌, length, flat_map, Option, Some, refl, sym, ◌∙◌, ap, subst, arith, append_assoc}
+use Rattle.std.proofs.Common.{◌≡◌, ℕ, suc, ◌+◌, ◌<◌, ◌≤◌, ◌⊎◌, inl, inr, true, false, List, [], ◌∷◌, ◌++◌, length, flat_map, Option, Some, refl, sym, ◌∙◌, ap, subst, arith, append_assoc}
 use Rattle.kk_base.specs.Trace.{Event}
 use Rattle.kk_syntax.specs.Shapes.{is_among}
 use Rattle.kk_source.specs.State.{Environment}
@@ -31,12 +31,12 @@ use Rattle.rv_cells.proofs.Runs.{turn_of, Runs}
 use Rattle.rv_cells.proofs.Spots.{Spot, Known, Here, Did, saved}
 use Rattle.rv_cells.proofs.TokenOpenings.{LeadsTo}
 use Rattle.rv_cells.specs.CountedCells.{Owner, Follows}
-use Rattle.rv_cells.proofs.BoundVariables.{AreWithin, has_fewer, within_itself}
+use Rattle.rv_cells.proofs.BoundVariables.{AreWithin, has_fewer, within_itself, within_one}
 use Rattle.rv_cells.proofs.FormPlaces.{tree_in, Next, stands_behind}
-use Rattle.rv_cells.proofs.Values.{HasValues}
+use Rattle.rv_cells.proofs.Values.{HasValues, among_by}
 use Rattle.rv_cells.proofs.TokenLineCosts.{forms}
 use Rattle.rv_cells.proofs.TokenRelation.{lines_setting}
-use Rattle.rv_cells.proofs.TokenRelation.{Placed, Does, IsAt, GivesUp, IsBehind, IsFilling, IsNear, HaveSlotValues, HaveTokenCells, AllStand, held_values, Lowering, setting, upper, known_of, Continues, continues_more, AllWait, At, IsFitFrom, Follow, by_lines, Follows_step}
+use Rattle.rv_cells.proofs.TokenRelation.{Placed, Does, IsAt, GivesUp, IsBehind, IsFilling, IsTurnWith, turn_here, Near, IsNear, HaveSlotValues, HaveTokenCells, AllStand, held_values, Lowering, setting, upper, known_of, Continues, continues_more, AllWait, At, IsFitFrom, Follow, by_lines, Follows_step}
 
 -- ---- lines
 
@@ -110,8 +110,8 @@ module _ (program : Lowering) where
       {fs : List (Frame Line)} {left : List Line} → At program code inner frames tokens input s fs left
       → IsAt program code s.environment inner (machine_at code s.environment inner frames s.heap tokens) input
       (turn_of left s.frame fs s.world)
-  at_here {s = s} {fs = fs} {left = left} at =
-      record { spot = s; fs = fs; left = left; environment_is = refl; heap_is = refl; turn_is = refl; at = at }
+  at_here {code = code} {inner = inner} {frames = frames} {tokens = tokens} {input = input} {s = s} {fs = fs} {left = left} at =
+      turn_here (At program code inner frames tokens input) s fs left at
 
   pub near_here : (code : Tokened) (inner : List TokenJoin) (frames : List TokenFrame) (tokens : Tokens) (input : List ℕ) (s : Spot)
       (fs : List (Frame Line)) (left : List Line) → Follows program.pool program.layout s.address s.owners s.heap s.world.cells
@@ -120,7 +120,23 @@ module _ (program : Lowering) where
       → IsNear program code s.environment inner (machine_at code s.environment inner frames s.heap tokens) input
       (turn_of left s.frame fs s.world)
   near_here code inner frames tokens input s fs left holds is =
-      record { spot = s; fs = fs; left = left; environment_is = refl; heap_is = refl; turn_is = refl; follows = holds; near = is }
+      turn_here (Near program code inner frames tokens input) s fs left (record { follows = holds; near = is })
+
+  -- the step of a code from a turn at a spot, by the step from there
+  pub steps_at : (holds : Spot → List (Frame Line) → List Line → Type 0) (code : Tokened) (environment : Environment)
+      (inner : List TokenJoin) (frames : List TokenFrame) (heap : Heap) (tokens : Tokens) (input : List ℕ) (idle : ℕ)
+      (t : AsmTurn World Ending) (is : IsTurnWith holds environment heap t)
+      → (IsFitFrom program (token_at code is.spot.environment inner frames is.spot.heap tokens input)
+      → StepsOn idle code inner frames tokens input is.spot is.fs is.left)
+      → IsFitFrom program (token_at code environment inner frames heap tokens input)
+      → Follows_step program idle (token_at code environment inner frames heap tokens input) t
+  steps_at holds code environment inner frames heap tokens input idle t is steps fit =
+      let u = turn_of is.left is.spot.frame is.fs is.spot.world in
+      let Steps : Environment → Heap → Type 0
+      = λ e h. IsFitFrom program (token_at code e inner frames h tokens input)
+      → Follows_step program idle (token_at code e inner frames h tokens input) u in
+      subst (Follows_step program idle (token_at code environment inner frames heap tokens input)) (sym is.turn_is)
+      (subst (Steps environment) is.heap_is (subst (λ e. Steps e is.spot.heap) is.environment_is steps) fit)
 
   -- an action as the world sees it
   abbrev pub seen_action : Action TokenConfiguration → List ℕ → List Event × TokenState
@@ -225,6 +241,42 @@ module _ (program : Lowering) where
       bytes = at.bytes;
     }
 
+    -- The code behind a form, which has own lines and leaves those of the code, where these variables are bound.
+    pub record CodeBehind (rest : Tokened) (own more : List Line) (low : ℕ) (later : List ℕ) : Type 0 where
+      pub parts : at.does.placed.own ≡ own ++ more
+      pub lines : CodeLines (lines_setting program at.shape)
+          at.shape.variables at.does.goal low rest more at.does.placed.high
+      pub part_is : GoesTo rest own more low lines
+      pub older : AreWithin s.bound later
+      pub below : (x : ℕ) → is_among later x ≡ true → x < at.shape.variables
+      pub marked : HasMark program.marks at.shape.holds at.shape.result later at.does.given (bare rest)
+      pub numbered : AreNumbered at.shape.variables later (bare rest)
+      pub has : HasSlots at.shape.slots rest
+      pub keeps : Keeps at.shape.standing rest
+
+    -- so it is behind a form that binds one variable
+    pub behind_one : {rest : Tokened} {own more : List Line} (x : ℕ) → x < at.shape.variables → at.does.placed.own ≡ own ++ more
+        → (low : ℕ)
+        → (lines : CodeLines (lines_setting program at.shape) at.shape.variables at.does.goal low rest more at.does.placed.high)
+        → GoesTo rest own more low lines
+        → HasMark program.marks at.shape.holds at.shape.result (x ∷ s.bound) at.does.given (bare rest)
+        → AreNumbered at.shape.variables (x ∷ s.bound) (bare rest) → HasSlots at.shape.slots rest → Keeps at.shape.standing rest
+        → CodeBehind rest own more low (x ∷ s.bound)
+    behind_one x under parts low lines part_is marked numbered has keeps = record {
+      parts = parts;
+      lines = lines;
+      part_is = part_is;
+      older = within_one x s.bound;
+      below = λ z is. elim (among_by x s.bound z is) [
+        | inl e ↦ omega (arith, e, under)
+        | inr among ↦ at.has.below z among
+      ];
+      marked = marked;
+      numbered = numbered;
+      has = has;
+      keeps = keeps;
+    }
+
     -- the function at the rest of the code, behind these own lines of the code, with more variables bound
     abbrev pub does_behind : (rest : Tokened) (own more : List Line) (low : ℕ)
         (lines : CodeLines (lines_setting program at.shape) at.shape.variables at.does.goal low rest more at.does.placed.high)
@@ -262,18 +314,9 @@ module _ (program : Lowering) where
     -- What is to be shown of a spot, with older frames, tokens and lists, for a code to go on there behind some own lines.
     pub record GoesOn (rest : Tokened) (own more : List Line) (to : Spot) (gs : List (Frame Line)) (after : Tokens) (later : List ℕ)
         (next : Lists) : Type 0 where
-      pub parts : at.does.placed.own ≡ own ++ more
       pub low : ℕ
-      pub lines : CodeLines (lines_setting program at.shape)
-          at.shape.variables at.does.goal low rest more at.does.placed.high
-      pub part_is : GoesTo rest own more low lines
+      pub behind : CodeBehind rest own more low later
       pub within : AreWithin later to.bound
-      pub older : AreWithin s.bound later
-      pub below : (x : ℕ) → is_among later x ≡ true → x < at.shape.variables
-      pub marked : HasMark program.marks at.shape.holds at.shape.result later at.does.given (bare rest)
-      pub numbered : AreNumbered at.shape.variables later (bare rest)
-      pub has : HasSlots at.shape.slots rest
-      pub keeps : Keeps at.shape.standing rest
       pub judged : IsJudged program.pool.cells next.left next.unspent next.held next.older rest inner frames to.heap after
       pub cells : HaveTokenCells program.pool program.layout to.address to.owners to.heap after
       pub stand : AllStand program.layout at.shape.standing to.address to.owners (after.slots (length next.older))
@@ -289,21 +332,22 @@ module _ (program : Lowering) where
         → At program rest inner frames after input (record to { bound = later }) gs (more ++ at.does.placed.after)
     stands_on rest own more to gs after later next here left_is whole_is function_is on short =
         let p = at.does.placed in
+        let b = on.behind in
         let whole : s.frame.whole ≡ to.frame.whole = sym whole_is in
         record {
           shape = at.shape;
           lists = next;
           judged = on.judged;
-          does = does_behind rest own more on.low on.lines on.part_is to.frame.whole whole
+          does = does_behind rest own more on.low b.lines b.part_is to.frame.whole whole
               (whole_is ∙ split_at s.frame.whole p.before left own more p.after p.place
-              (p.left_is ∙ ap (λ ls. ls ++ p.after) on.parts))
-              later on.older on.marked on.numbered on.has on.keeps short;
+              (p.left_is ∙ ap (λ ls. ls ++ p.after) b.parts))
+              later b.older b.marked b.numbered b.has b.keeps short;
           follows = here.follows;
           cells = on.cells;
           stand = on.stand;
           has = record {
             values = has_fewer here.values later on.within;
-            below = on.below;
+            below = b.below;
             tokens = on.slots_are;
             held_is = on.held_is;
             formed = subst AreLinesFormed whole at.has.formed;
@@ -341,15 +385,7 @@ module _ (program : Lowering) where
         does_by idle start end [] t0 (is ∙ silent (machine_at rest to.environment inner frames to.heap after) input) fit
         (λ fits. by_lines program lands.steps lands.cost ((upper program).weight start) (saved s.heap) idle end t0 t1 lands.runs
         (omega (arith, cheap, cheap_run)) (omega (arith, less)) fits
-        (record {
-          spot = landed;
-          fs = gs;
-          left = more ++ p.after;
-          environment_is = refl;
-          heap_is = refl;
-          turn_is = refl;
-          at = stands_on rest own more to gs after later next lands.here lands.left lands.whole lands.function on short;
-        }))
+        (at_here (stands_on rest own more to gs after later next lands.here lands.left lands.whole lands.function on short)))
 
     pub goes_on : (idle : ℕ) (fit : IsFitFrom program (token_at code s.environment inner frames s.heap tokens input))
         (rest : Tokened) (own more : List Line) (to : Spot) (gs : List (Frame Line)) (after : Tokens) (later : List ℕ) (next :
@@ -365,7 +401,7 @@ module _ (program : Lowering) where
     goes_on idle fit rest own more to gs after later next most tells lands on silent cheap is less short =
         let p = at.does.placed in
         let own_is : left ≡ own ++ (more ++ p.after)
-        = p.left_is ∙ ap (λ ls. ls ++ p.after) on.parts ∙ append_assoc own more p.after in
+        = p.left_is ∙ ap (λ ls. ls ++ p.after) on.behind.parts ∙ append_assoc own more p.after in
         subst (λ ls. Follows_step program idle (token_at code s.environment inner frames s.heap tokens input)
         (turn_of ls s.frame fs s.world)) (sym own_is)
         (goes_from idle fit rest own more (own ++ (more ++ p.after)) to gs after later next most tells lands on silent cheap is less
@@ -374,14 +410,7 @@ module _ (program : Lowering) where
     -- What is known of a code that does something with tokens alone, by one line: the code behind it has the same variables.
     pub record ActsOnTokens (rest : Tokened) (line : Line) (more : List Line) : Type 0 where
       pub forms_are : forms code ≡ suc (forms rest)
-      pub parts : at.does.placed.own ≡ line ∷ more
-      pub lines : CodeLines (lines_setting program at.shape)
-          at.shape.variables at.does.goal at.does.placed.low rest more at.does.placed.high
-      pub part_is : GoesTo rest (line ∷ []) more at.does.placed.low lines
-      pub marked : HasMark program.marks at.shape.holds at.shape.result s.bound at.does.given (bare rest)
-      pub numbered : AreNumbered at.shape.variables s.bound (bare rest)
-      pub has : HasSlots at.shape.slots rest
-      pub keeps : Keeps at.shape.standing rest
+      pub behind : CodeBehind rest (line ∷ []) more at.does.placed.low s.bound
 
     -- That line stands in front of the lines of the code behind it, and the code says no more without its tokens than that one.
     pub acts_by : (rest : Tokened) (line : Line)
@@ -393,13 +422,17 @@ module _ (program : Lowering) where
         → ActsOnTokens rest line lines.0
     acts_by rest line lines forms_are bare_is part_is has keeps = record {
       forms_are = forms_are;
-      parts = lines.2;
-      lines = lines.1;
-      part_is = part_is;
-      marked = subst (HasMark program.marks at.shape.holds at.shape.result s.bound at.does.given) bare_is at.does.placed.marked;
-      numbered = subst (AreNumbered at.shape.variables s.bound) bare_is at.does.placed.numbered;
-      has = has;
-      keeps = keeps;
+      behind = record {
+        parts = lines.2;
+        lines = lines.1;
+        part_is = part_is;
+        older = within_itself s.bound;
+        below = at.has.below;
+        marked = subst (HasMark program.marks at.shape.holds at.shape.result s.bound at.does.given) bare_is at.does.placed.marked;
+        numbered = subst (AreNumbered at.shape.variables s.bound) bare_is at.does.placed.numbered;
+        has = has;
+        keeps = keeps;
+      };
     }
 
     -- the step of such a code, by what becomes of the tokens, for which the number of the newest frame is told
@@ -438,17 +471,9 @@ module _ (program : Lowering) where
         goes_on idle fit rest (line ∷ []) more (record s { frame = frame; owners = owners; world = world }) fs after s.bound
         next most goes lands
         (record {
-          parts = acts.parts;
           low = at.does.placed.low;
-          lines = acts.lines;
-          part_is = acts.part_is;
+          behind = acts.behind;
           within = within_itself s.bound;
-          older = within_itself s.bound;
-          below = at.has.below;
-          marked = acts.marked;
-          numbered = acts.numbered;
-          has = acts.has;
-          keeps = acts.keeps;
           judged = has.judged;
           cells = has.cells;
           stand = has.stand;

@@ -1,5 +1,5 @@
 -- The lines of a construction in the cell of a token do the step of the machine with tokens.
-use Rattle.std.proofs.Common.{◌≡◌, ℕ, suc, ◌+◌, ◌<◌, ◌≤◌, inl, inr, true, false, List, [], ◌∷◌, ◌++◌, length, Some, refl, sym, ◌∙◌, ap, subst, arith, ne_eqb, append_assoc}
+use Rattle.std.proofs.Common.{◌≡◌, ℕ, suc, ◌+◌, ◌<◌, ◌≤◌, inl, true, false, List, [], ◌∷◌, ◌++◌, length, Some, refl, sym, ◌∙◌, ap, subst, arith, ne_eqb, append_assoc}
 use Rattle.std.proofs.lemmas.List.{length-map}
 use Rattle.kk_syntax.specs.Shapes.{is_among, without}
 use Rattle.kk_source.specs.State.{Value}
@@ -26,7 +26,7 @@ use Rattle.rv_lower.proofs.Labels.{found_label}
 use Rattle.rv_cells.specs.Layout.{FitFields, words_in, header_of}
 use Rattle.rv_cells.specs.CountedCells.{cell_of, is_aside, with_owner, assign}
 use Rattle.rv_cells.specs.CellLines.{hold_lines, unhold_lines}
-use Rattle.rv_cells.proofs.BoundVariables.{within_itself, within_one, all_among, apart_above}
+use Rattle.rv_cells.proofs.BoundVariables.{within_itself, all_among, apart_above}
 use Rattle.rv_cells.proofs.ConstructionLines.{IsMaking, made_spot}
 use Rattle.rv_cells.proofs.FillLines.{fill_cost, from_label, whole_lines, tests_cell, fills_from}
 use Rattle.rv_cells.proofs.KeptStores.{kept_words}
@@ -35,7 +35,7 @@ use Rattle.rv_cells.proofs.Owners.{chosen_same, chosen_other}
 use Rattle.rv_cells.proofs.CellActions.{put_in, copy_runs, jump_runs}
 use Rattle.rv_cells.proofs.Runs.{turn_of, Runs, runs_then}
 use Rattle.rv_cells.proofs.Spots.{Spot, Here}
-use Rattle.rv_cells.proofs.Values.{has_cell, among_by}
+use Rattle.rv_cells.proofs.Values.{has_cell}
 use Rattle.rv_cells.proofs.Words.{hand_owned}
 use Rattle.rv_cells.specs.TokenedLines.{values_of_slots, header_stands, count_stands}
 use Rattle.rv_cells.proofs.TokenContents.{none_stands, standing_words}
@@ -45,7 +45,7 @@ use Rattle.rv_cells.proofs.TokenCalls.{arguments_fit}
 use Rattle.rv_cells.proofs.TokenFields.{grown_words}
 use Rattle.rv_cells.proofs.TokenFrames.{slots_moved, all_carried, all_wait_at}
 use Rattle.rv_cells.proofs.TokenLineCosts.{forms}
-use Rattle.rv_cells.proofs.TokenContinuations.{lands_leads, token_at, machine_at, seen_action, silent_builds, goes_from, kept_after}
+use Rattle.rv_cells.proofs.TokenContinuations.{lands_leads, token_at, machine_at, seen_action, silent_builds, behind_one, goes_from, kept_after}
 use Rattle.rv_cells.proofs.TokenRelation.{SlotIs, IsTokenCell, token_words, finds, held_values, Lowering, target, setting, upper, known_of, At, IsFitFrom, Follows_step}
 use Rattle.rv_cells.proofs.TokenUniques.{slots_set, another, row_times}
 
@@ -238,20 +238,10 @@ module _ (program : Lowering) (x y c first : ℕ) (arguments kept_at others : Li
         (record at.lists { unspent = without (y ∷ []) at.lists.unspent })
         (fill_cost known held_ones (first ∷ arguments)) (builds (busy s.heap)) (lands_leads done.2)
         (record {
-          parts = p.lines.4;
           low = p.low + 1;
-          lines = p.lines.3;
-          part_is = record { way = 0 ∷ []; is_part = inl refl; code_is = refl };
+          behind = behind_one program code inner frames tokens input s fs left at x p.numbered.0 p.lines.4 (p.low + 1) p.lines.3
+              (record { way = 0 ∷ []; is_part = inl refl; code_is = refl }) p.marked.1.1 p.numbered.1.1 p.has.1.1 p.keeps.1;
           within = within_itself (x ∷ s.bound);
-          older = within_one x s.bound;
-          below = λ z is. elim (among_by x s.bound z is) [
-            | inl e ↦ (let low = p.numbered.0 in omega (arith, e, low))
-            | inr among ↦ at.has.below z among
-          ];
-          marked = p.marked.1.1;
-          numbered = p.numbered.1.1;
-          has = p.has.1.1;
-          keeps = p.keeps.1;
           judged = judged;
           stand = none_stands program.layout at.shape.standing to.address to.owners (after.slots n) others
               (without (y ∷ []) at.lists.unspent) p.keeps.0 judged.slots_are (λ z is. at.judged.spends.1.1.1.0 z ∙ is);

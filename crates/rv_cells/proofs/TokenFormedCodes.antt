@@ -31,7 +31,7 @@ use Rattle.rv_isa.specs.AsmCode.{Line}
 use Rattle.rv_isa.specs.WellFormed.{most_values, may_give}
 use Rattle.rv_lower.specs.Lines.{Texts, computes, copies_to, sets, acts}
 use Rattle.rv_lower.specs.Lowered.{Goal, joins, goal_lines, tail_lines}
-use Rattle.rv_lower.proofs.WellFormedness.{Each, Readable, HasRoom, IsWithin, within_more, room_more, to_variable}
+use Rattle.rv_lower.proofs.WellFormedness.{Each, Readable, HasRoom, IsWithin, within_more, room_more, to_variable, most_temporaries}
 use Rattle.rv_cells.specs.declared.standing.Standing.{Standing}
 use Rattle.rv_lower.proofs.Operations.{Leads}
 use Rattle.rv_lower.proofs.Codes.{Fits, fits_weaker, fits_give, fits_tail_call, fits_inside, fits_split}
@@ -113,7 +113,7 @@ held_behind held x (Construct c) arguments others rest is = subst (λ (h : List 
 held_behind held x (Call f) arguments others rest is = is
 
 module _ (layout : Layout) (holds : ℕ → Bool) (texts : Texts) (standing : Standing) (marks : CellMarks) (result : Bool)
-    (variables slots : ℕ) (room : (variables + slots) + 8 ≤ most_values) where
+    (variables slots : ℕ) (room : (variables + slots) + most_temporaries ≤ most_values) where
   abbrev setting : Setting
   setting = record { layout = layout; holds = holds; base = variables + slots; texts = texts; standing = standing }
 

@@ -22,7 +22,7 @@ use Rattle.rv_isa.specs.Frames.{is_among}
 use Rattle.rv_isa.specs.WellFormed.{most_values, AreDistinct, IsWellFormed, AreWellFormed}
 use Rattle.rv_lower.specs.Lines.{Texts}
 use Rattle.rv_lower.specs.Lowered.{returns, from_to}
-use Rattle.rv_lower.proofs.WellFormedness.{Readable, Good, HasRoom, all_each}
+use Rattle.rv_lower.proofs.WellFormedness.{Readable, Good, HasRoom, all_each, most_temporaries}
 use Rattle.rv_lower.proofs.Codes.{Fits}
 use Rattle.rv_lower.proofs.Functions.{among_from_to, from_to_distinct, from_to_length, from_to_each}
 use Rattle.rv_lower.proofs.Operations.{only_bound}
@@ -57,7 +57,7 @@ module _ (layout : Layout) (texts : Texts) (table : CellMarks) (f : ℕ) (functi
   among_parameters : (v : ℕ) → is_bound parameters v ≡ true → v < function.parameters
   among_parameters v among = let at = among_numbers 0 function.parameters v among in omega (arith, at.1, at.2)
 
-  room : base + 8 ≤ most_values
+  room : base + most_temporaries ≤ most_values
   room = let low = is.low in omega (arith, low)
 
   has : HasRoom variables parameters

@@ -19,7 +19,7 @@ use Rattle.rv_isa.specs.WellFormed.{IsLineFormed, AreLinesFormed, AreTokensHeld}
 use Rattle.rv_isa.proofs.HeldTokens.{held_from, held_to, held_over}
 use Rattle.rv_lower.specs.Lines.{acts, copies_to, copies, temporaries}
 use Rattle.rv_lower.specs.Lowered.{Goal}
-use Rattle.rv_lower.proofs.WellFormedness.{AllBound, Each, Readable, IsWithin, readable_within}
+use Rattle.rv_lower.proofs.WellFormedness.{AllBound, Each, Readable, IsWithin, readable_within, most_temporaries}
 use Rattle.rv_lower.proofs.WellFormedness.{Good, HasRoom, alive_line, none_some, some_same, computes_formed}
 use Rattle.rv_lower.proofs.WellFormedness.{readable_small, temporary_left, variable_left, hands_formed, hands_alive}
 use Rattle.rv_lower.proofs.WellFormedness.{temporaries_above}
@@ -137,7 +137,8 @@ module _ (variables base : ℕ) (bound : List ℕ) (has : HasRoom base bound) (h
         copy_left x at less le held all.1,
       )
 
-  holding_copies : (limit last : ℕ) (xs : List ℕ) (rest : List Line) → base ≤ limit → limit + length xs ≡ last → last ≤ base + 8
+  holding_copies : (limit last : ℕ) (xs : List ℕ) (rest : List Line) → base ≤ limit → limit + length xs ≡ last
+      → last ≤ base + most_temporaries
       → AllBound bound xs → Each (λ x. x < variables) xs → Holding held (Readable base last bound) rest
       → Holding held (Readable base limit bound) (copies limit xs ++ rest)
   holding_copies limit last [] rest above is le all small more =

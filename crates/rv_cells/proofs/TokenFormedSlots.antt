@@ -9,7 +9,7 @@ use Rattle.kk_core.specs.Sizes.{AreBound}
 use Rattle.kk_counted.specs.Lowerable.{AreBelow}
 use Rattle.kk_counted.specs.Spending.{AreApart}
 use Rattle.rv_isa.specs.WellFormed.{most_values}
-use Rattle.rv_lower.proofs.WellFormedness.{HasRoom, IsWithin}
+use Rattle.rv_lower.proofs.WellFormedness.{HasRoom, IsWithin, most_temporaries}
 use Rattle.rv_cells.specs.TokenedLines.{values_of_slots}
 
 module _ (variables : ℕ) where
@@ -78,7 +78,7 @@ module _ (variables : ℕ) where
   -- ---- room
 
   -- they are below the temporaries, and those are below the most values that there are
-  pub room_read : (slots : ℕ) (unspent bound : List ℕ) → (variables + slots) + 8 ≤ most_values
+  pub room_read : (slots : ℕ) (unspent bound : List ℕ) → (variables + slots) + most_temporaries ≤ most_values
       → ((v : ℕ) → is_among bound v ≡ true → v < variables) → HasRoom (variables + slots) (read_below slots unspent bound)
   room_read slots unspent bound room low = record { room = room; low = below slots (omega arith) }
     where

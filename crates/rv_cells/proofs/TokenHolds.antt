@@ -14,6 +14,7 @@ use Rattle.rv_isa.specs.AsmCode.{Line}
 use Rattle.rv_isa.specs.Frames.{Frame, is_among as is_out}
 use Rattle.cell_heap.specs.Blocks.{past_links}
 use Rattle.kk_counted.specs.Spending.{AreApart}
+use Rattle.kk_counted.specs.TokenCosts.{quiet_cost}
 use Rattle.cell_runtime.specs.World.{with_cells}
 use Rattle.rv_lower.specs.Lines.{acts}
 use Rattle.rv_cells.specs.CountedCells.{in_hand, kept_aside, with_owner}
@@ -107,7 +108,7 @@ module _ (program : Lowering) (y : ℕ) (rest : Tokened) where
           (machine_at program rest s.environment inner frames s.heap tokens) step refl in
           acts_on_tokens program (Tokened.hold y rest) inner frames tokens input s fs left at idle idle_is fit rest line
           p.lines.0 (hold_acts inner frames tokens input s fs left at) s.frame s.owners s.world tokens
-          (record at.lists { held = y ∷ at.lists.held }) 12
+          (record at.lists { held = y ∷ at.lists.held }) quiet_cost
           (record {
             cost = 11;
             steps = 1;
@@ -168,7 +169,7 @@ module _ (program : Lowering) (y : ℕ) (rest : Tokened) where
           } in
           acts_on_tokens program (Tokened.hold y rest) inner frames tokens input s fs left at idle idle_is fit rest line
           p.lines.0 (hold_acts inner frames tokens input s fs left at) to.frame to.owners to.world after
-          (record at.lists { held = y ∷ at.lists.held }) 12
+          (record at.lists { held = y ∷ at.lists.held }) quiet_cost
           (record {
             cost = 11;
             steps = 1;
@@ -238,7 +239,7 @@ module _ (program : Lowering) (y : ℕ) (rest : Tokened) where
           let value : s.frame.cells (v + y) ≡ Some 0 = subst (λ slot. SlotIs s.address slot (s.frame.cells (v + y))) empty
           (at.has.tokens.are y) in
           acts_on_tokens program (Tokened.unhold y rest) inner frames tokens input s fs left at idle idle_is fit rest line
-          p.lines.0 (unhold_acts inner frames tokens input s fs left at) s.frame s.owners s.world tokens next 12
+          p.lines.0 (unhold_acts inner frames tokens input s fs left at) s.frame s.owners s.world tokens next quiet_cost
           (record {
             cost = 9;
             steps = 1;
@@ -309,7 +310,7 @@ module _ (program : Lowering) (y : ℕ) (rest : Tokened) where
             world = with_cells s.world back.now;
           } in
           acts_on_tokens program (Tokened.unhold y rest) inner frames tokens input s fs left at idle idle_is fit rest line
-          p.lines.0 (unhold_acts inner frames tokens input s fs left at) to.frame to.owners to.world after next 12
+          p.lines.0 (unhold_acts inner frames tokens input s fs left at) to.frame to.owners to.world after next quiet_cost
           (record {
             cost = 9;
             steps = 1;

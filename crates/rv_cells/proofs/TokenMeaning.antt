@@ -29,6 +29,7 @@ use Rattle.rv_isa.specs.Processor.{Ending, exited}
 use Rattle.rv_isa.specs.AsmCode.{Lines}
 use Rattle.rv_isa.specs.AsmMachine.{AsmTurn, asm_start}
 use Rattle.rv_isa.specs.Primitives.{ended}
+use Rattle.rv_isa.specs.Numbers.{cell_size}
 use Rattle.cell_heap.specs.Pool.{Pool}
 use Rattle.cell_runtime.specs.World.{World, first_world}
 use Rattle.rv_cells.specs.Layout.{Layout}
@@ -85,7 +86,7 @@ stopped_at TokenControl.stuck by is = cc
 
 module _ (layout : Layout) (marks : CellMarks) (code : TokenedProgram) (constants : List (List ℕ)) (functions : List Lines)
     (lowered : IsTokenedLowered layout marks code constants functions) (room : ℕ) (fits_room : HasRoom room code) (pool : Pool)
-    (depth first : ℕ) (input : List ℕ) (aligned : pool.first % 32 ≡ 0) (some : 0 < pool.first)
+    (depth first : ℕ) (input : List ℕ) (aligned : pool.first % cell_size ≡ 0) (some : 0 < pool.first)
     (bytes : All (λ byte. byte < 256) input)
     (fits : (n : ℕ) → IsFit layout (counted_after (roomy_cost room) (setting_on (bare_program code) pool depth) input n)) where
   -- the program and its lines

@@ -14,7 +14,7 @@ use Rattle.cell_heap.specs.Blocks.{Cells}
 use Rattle.cell_runtime.specs.World.{World, with_cells}
 use Rattle.rv_lower.specs.Lines.{sets, copies_to, acts}
 use Rattle.rv_lower.proofs.FormEffects.{put_same, put_other}
-use Rattle.rv_cells.specs.Layout.{words_in, header_of}
+use Rattle.rv_cells.specs.Layout.{words_in, header_of, first_field}
 use Rattle.rv_cells.specs.CountedCells.{AreFrom, Owner, in_hand, is_aside}
 use Rattle.rv_cells.specs.CellLines.{token_ends, TokenUniqueLines}
 use Rattle.rv_cells.proofs.Runs.{turn_of, Runs, runs_none, runs_then}
@@ -36,7 +36,7 @@ pub record HasCell (s t : Spot) (token at : ℕ) (fields : List ℕ) (header : �
   pub hand : t.owners at ≡ in_hand words
   pub count_is : words 0 ≡ Some 1
   pub header_is : words 1 ≡ Some header
-  pub fields_are : AreFrom words 2 fields
+  pub fields_are : AreFrom words first_field fields
   pub aside : (y : ℕ) → y ≢ at → is_aside (s.owners y) ≡ true → t.owners y ≡ s.owners y
   pub was : (y : ℕ) → y ≢ at → is_aside (t.owners y) ≡ true → t.owners y ≡ s.owners y
 
@@ -53,8 +53,8 @@ TokenIs (suc zero) s t token at fields header = HasCell s t token at fields head
 TokenIs (suc (suc n)) s t token at fields header = IsNull s t token
 
 -- From lines a spot comes to another, with these lines left, at this cost beyond what was saved, and older frames to other ones.
--- The values of tokens may be written. Of the frame only values change: these, those of variables that become bound, and
--- temporaries.
+-- The frame is in the same function and holds the same tokens. Of its values only these change: those of these tokens, those of
+-- variables that become bound, and temporaries.
 pub record LeadsTo (known : Known) (most : ℕ) (start end : List Line) (fs gs : List (Frame Line)) (s t : Spot)
     (tokens : List ℕ) : Type 0 where
   pub cost : ℕ
@@ -62,15 +62,12 @@ pub record LeadsTo (known : Known) (most : ℕ) (start end : List Line) (fs gs :
   pub within : cost + saved t.heap ≤ most + saved s.heap
   pub runs : Runs known.target cost steps (turn_of start s.frame fs s.world) (turn_of end t.frame gs t.world)
   pub here : Here known t
-  pub grown : (z : ℕ) → is_among t.bound z ≡ false → is_among s.bound z ≡ false
   pub spared : (z : ℕ) → z < known.base → is_among tokens z ≡ false → is_among t.bound z ≡ false
       → t.frame.cells z ≡ s.frame.cells z
   pub left : t.world.left ≡ s.world.left
-  pub trace : t.world.trace ≡ s.world.trace
   pub whole : t.frame.whole ≡ s.frame.whole
   pub function : t.frame.function ≡ s.frame.function
   pub held : t.frame.held ≡ s.frame.held
-  pub into : t.frame.into ≡ s.frame.into
 
 -- lines lead so to those that stand behind them
 abbrev pub Leads : Known → ℕ → List Line → List Line → List (Frame Line) → List (Frame Line) → Spot → Spot → List ℕ → Type 0
@@ -186,15 +183,12 @@ module _ (known : Known) (rest : List Line) (fs : List (Frame Line)) (s : Spot) 
           within = omega arith;
           runs = runs_then target comes.cost ((moves + 2) + cost) comes.steps (1 + steps) t0 t1 t3 came back;
           here = record { follows = comes.here.follows; values = has_other comes.here.values token at spare };
-          grown = λ z none. list_grown fields s.bound z none;
           spared = λ z below apart none. put_other token z at frame.cells (among_none token [] z apart).0
               ∙ comes.spared z below none;
           left = refl {a = s.world.left};
-          trace = refl {a = s.world.trace};
           whole = comes.whole;
           function = comes.function;
           held = comes.held;
-          into = comes.into;
         },
         record {
           value = put_same token at frame.cells;
@@ -230,15 +224,12 @@ module _ (known : Known) (rest : List Line) (fs : List (Frame Line)) (s : Spot) 
           within = omega arith;
           runs = comes.runs;
           here = comes.here;
-          grown = λ z none. list_grown fields s.bound z none;
           spared = λ z below apart none. comes.spared z below none
               ∙ put_other token z 0 tests.cells (among_none token [] z apart).0 ∙ Opens.tests_spare known o z below;
           left = refl {a = s.world.left};
-          trace = refl {a = s.world.trace};
           whole = comes.whole;
           function = comes.function;
           held = comes.held;
-          into = comes.into;
         },
         record {
           value = comes.spared token low spare ∙ put_same token 0 tests.cells;

@@ -30,6 +30,7 @@ use Rattle.rv_isa.specs.AsmMachine.{AsmTurn}
 use Rattle.rv_isa.specs.Frames.{Frame}
 use Rattle.rv_isa.specs.Primitives.{ended, stuck as stuck_turn}
 use Rattle.rv_isa.specs.WellFormed.{AreLinesFormed}
+use Rattle.rv_isa.specs.Numbers.{cell_size}
 use Rattle.cell_heap.specs.Pool.{Pool}
 use Rattle.cell_runtime.specs.World.{World}
 use Rattle.rv_lower.specs.Lines.{Texts, copies_to, acts}
@@ -37,17 +38,36 @@ use Rattle.rv_lower.specs.Lowered.{Goal, returns, joins}
 use Rattle.rv_lower.proofs.Labels.{found_label, label_found}
 use Rattle.rv_cells.specs.declared.standing.Standing.{Standing}
 use Rattle.rv_cells.specs.declared.standing.Standing.TheVariants.{Nothing, Count, Cell}
-use Rattle.rv_cells.specs.Layout.{Layout, IsNarrow, words_in, header_of, FitsField}
+use Rattle.rv_cells.specs.Layout.{Layout, IsNarrow, words_in, header_of, FitsField, first_field}
 use Rattle.rv_cells.specs.CountedCells.{AreFrom, Owner, in_hand, kept_aside, Follows, NoneAside, set_aside}
 use Rattle.rv_cells.specs.CountedLines.{Setting}
 use Rattle.rv_cells.specs.TokenedLines.{CodeLines, HasSlots, Keeps, IsFunctionOf, AreFunctionsOf}
 use Rattle.rv_cells.specs.Fitting.{IsFit}
 use Rattle.rv_cells.proofs.BoundVariables.{AreWithin}
-use Rattle.rv_cells.proofs.FormPlaces.{Tree, tree, no_part, own_of, tree_in, StandsAt}
+use Rattle.rv_cells.proofs.FormPlaces.{Tree, tree, no_part, own_of, tree_in, FillThere, StandsAt}
 use Rattle.rv_cells.proofs.TokenLineCosts.{forms}
 use Rattle.rv_cells.proofs.Values.{HasValues}
 use Rattle.rv_cells.proofs.Runs.{Target, turn_of, Runs, machine}
 use Rattle.rv_cells.proofs.Spots.{Spot, Known, saved}
+use Rattle.rv_cells.proofs.LineCosts.{leading_cost}
+
+-- A turn at a spot that has this environment and this heap, where something holds of the spot, its older frames and the lines that
+-- are left.
+pub record IsTurnWith (holds : Spot → List (Frame Line) → List Line → Type 0) (environment : Environment) (heap : Heap)
+    (turn : AsmTurn World Ending) : Type 0 where
+  pub spot : Spot
+  pub fs : List (Frame Line)
+  pub left : List Line
+  pub environment_is : spot.environment ≡ environment
+  pub heap_is : spot.heap ≡ heap
+  pub turn_is : turn ≡ turn_of left spot.frame fs spot.world
+  pub at : holds spot fs left
+
+-- the turn at a spot itself
+pub turn_here : (holds : Spot → List (Frame Line) → List Line → Type 0) (s : Spot) (fs : List (Frame Line)) (left : List Line)
+    → holds s fs left → IsTurnWith holds s.environment s.heap (turn_of left s.frame fs s.world)
+turn_here holds s fs left at =
+    record { spot = s; fs = fs; left = left; environment_is = refl; heap_is = refl; turn_is = refl; at = at }
 
 -- A program with tokens and its assembler code, with how its values look; the cells that it has; and the depth. `most` is the most
 -- forms of a function.
@@ -61,7 +81,7 @@ pub record Lowering : Type 0 where
   pub pool : Pool
   pub depth : ℕ
   pub most : ℕ
-  pub aligned : pool.first % 32 ≡ 0
+  pub aligned : pool.first % cell_size ≡ 0
   pub some : 0 < pool.first
   pub narrow : IsNarrow layout
   pub fields_are : (c : ℕ) → layout.fields c ≡ field_marks marks c
@@ -93,8 +113,8 @@ held_values slots variables (y ∷ ys) =
 
 -- The cell of a token is held where its slot is linked, else it is in hand. Its fields have these words.
 abbrev pub IsTokenCell : Bool → List ℕ → Owner → Type 0
-IsTokenCell true ws owner = (words : ℕ → Option ℕ) × (owner ≡ kept_aside words) × AreFrom words 2 ws
-IsTokenCell false ws owner = (words : ℕ → Option ℕ) × (owner ≡ in_hand words) × AreFrom words 2 ws
+IsTokenCell true ws owner = (words : ℕ → Option ℕ) × (owner ≡ kept_aside words) × AreFrom words first_field ws
+IsTokenCell false ws owner = (words : ℕ → Option ℕ) × (owner ≡ in_hand words) × AreFrom words first_field ws
 
 -- the words of the fields that a name has
 abbrev pub token_words : Layout → (ℕ → ℕ) → Heap → ℕ → List ℕ
@@ -336,15 +356,8 @@ module _ (program : Lowering) where
     pub bytes : All (λ byte. byte < 256) input
 
   -- a turn at such a spot
-  pub record IsAt (code : Tokened) (environment : Environment) (inner : List TokenJoin) (c : TokenConfiguration) (input : List ℕ)
-      (turn : AsmTurn World Ending) : Type 0 where
-    pub spot : Spot
-    pub fs : List (Frame Line)
-    pub left : List Line
-    pub environment_is : spot.environment ≡ environment
-    pub heap_is : spot.heap ≡ c.heap
-    pub turn_is : turn ≡ turn_of left spot.frame fs spot.world
-    pub at : At code inner c.frames c.tokens input spot fs left
+  abbrev pub IsAt : Tokened → Environment → List TokenJoin → TokenConfiguration → List ℕ → AsmTurn World Ending → Type 0
+  IsAt code environment inner c input turn = IsTurnWith (At code inner c.frames c.tokens input) environment c.heap turn
 
   -- A code that gives up a value that is no cell, which is no line: what comes behind it is at the lines that are left.
   pub record GivesUp (code : Tokened) (inner : List TokenJoin) (frames : List TokenFrame) (tokens : Tokens) (input : List ℕ)
@@ -366,7 +379,7 @@ module _ (program : Lowering) where
       (s : Spot) (fs : List (Frame Line)) (left : List Line) : Type 0 where
     pub there : List Line
     pub steps : ℕ
-    pub runs : Runs target 8 steps (turn_of left s.frame fs s.world) (turn_of there s.frame fs s.world)
+    pub runs : Runs target leading_cost steps (turn_of left s.frame fs s.world) (turn_of there s.frame fs s.world)
     pub stands : At code inner frames tokens input s fs there ⊎ GivesUp code inner frames tokens input s fs there
 
   -- behind values that are no cells and are given up, a case on the truth of a variable comes
@@ -398,13 +411,7 @@ module _ (program : Lowering) where
       (s : Spot) (fs : List (Frame Line)) (left : List Line) : Type 0 where
     pub x : ℕ
     pub y : ℕ
-    pub c : ℕ
-    pub first : ℕ
-    pub arguments : List ℕ
-    pub kept : List ℕ
-    pub others : List ℕ
-    pub rest : Tokened
-    pub code_is : Tokened.fill x y c first arguments kept others rest ≡ code
+    pub fill : FillThere x y code
     pub there : List Line
     pub at : At code inner frames tokens input s fs there
     pub q : ℕ
@@ -416,19 +423,17 @@ module _ (program : Lowering) where
     pub stands : StandsAt at.shape.root before
         (tree code (copies_to (at.shape.variables + y) x ∷ acts (Jump at.does.placed.low) [] ∷ []) no_part)
 
-  -- A turn at such a spot, where no line does the next step of the machine with tokens, or one does that before it too, or one goes
-  -- on in the midst of the lines of that step.
-  pub record IsNear (code : Tokened) (environment : Environment) (inner : List TokenJoin) (c : TokenConfiguration) (input : List ℕ)
-      (turn : AsmTurn World Ending) : Type 0 where
-    pub spot : Spot
-    pub fs : List (Frame Line)
-    pub left : List Line
-    pub environment_is : spot.environment ≡ environment
-    pub heap_is : spot.heap ≡ c.heap
-    pub turn_is : turn ≡ turn_of left spot.frame fs spot.world
-    pub follows : Follows program.pool program.layout spot.address spot.owners spot.heap spot.world.cells
-    pub near : IsBehind code inner c.frames c.tokens input spot fs left
-        ⊎ (GivesUp code inner c.frames c.tokens input spot fs left ⊎ IsFilling code inner c.frames c.tokens input spot fs left)
+  -- A spot where no line does the next step of the machine with tokens, or one does that before it too, or one goes on in the midst
+  -- of the lines of that step.
+  pub record Near (code : Tokened) (inner : List TokenJoin) (frames : List TokenFrame) (tokens : Tokens) (input : List ℕ) (s : Spot)
+      (fs : List (Frame Line)) (left : List Line) : Type 0 where
+    pub follows : Follows program.pool program.layout s.address s.owners s.heap s.world.cells
+    pub near : IsBehind code inner frames tokens input s fs left
+        ⊎ (GivesUp code inner frames tokens input s fs left ⊎ IsFilling code inner frames tokens input s fs left)
+
+  -- a turn at such a spot
+  abbrev pub IsNear : Tokened → Environment → List TokenJoin → TokenConfiguration → List ℕ → AsmTurn World Ending → Type 0
+  IsNear code environment inner c input turn = IsTurnWith (Near code inner c.frames c.tokens input) environment c.heap turn
 
   -- The run has ended, and the cells hold the heap. Where it has come to its end no token is left.
   pub record HasEnded (by : End) (heap : Heap) (turn : AsmTurn World Ending) : Type 0 where

@@ -17,7 +17,7 @@ use Rattle.rv_isa.specs.Frames.{put, is_among as is_out}
 use Rattle.cell_heap.specs.Pool.{Pool}
 use Rattle.cell_heap.specs.Blocks.{Cells, past_links}
 use Rattle.rv_lower.proofs.FormEffects.{put_same, put_other}
-use Rattle.rv_cells.specs.Layout.{Layout}
+use Rattle.rv_cells.specs.Layout.{Layout, first_field}
 use Rattle.rv_cells.specs.CountedCells.{AreFrom, Owner, nobody, cell_of, in_hand, kept_aside, Follows, with_owner, is_aside}
 use Rattle.rv_cells.specs.TokenedLines.{values_of_slots}
 use Rattle.rv_cells.proofs.NameContents.{some-is}
@@ -169,8 +169,8 @@ hand_stays values (z ∷ zs) x owners ws is =
 
 -- a cell that is set aside has fields of these words
 abbrev HasFields : List ℕ → Owner → Type 0
-HasFields ws (in_hand words) = AreFrom words 2 ws
-HasFields ws (kept_aside words) = AreFrom words 2 ws
+HasFields ws (in_hand words) = AreFrom words first_field ws
+HasFields ws (kept_aside words) = AreFrom words first_field ws
 HasFields ws _ = ⊥
 
 aside_hand : (owner : Owner) (ws : List ℕ) → HasFields ws owner → IsTokenCell false ws (as_back owner)

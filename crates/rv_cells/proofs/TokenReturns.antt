@@ -13,6 +13,7 @@ use Rattle.kk_counted.specs.TokenedCodes.{Tokened}
 use Rattle.kk_counted.specs.Tokens.{Slot, spent, token, is_unspent, Mark, plain, token_of, one_if_token, Tokens, marked}
 use Rattle.kk_counted.proofs.SlotMarks.{none_marked}
 use Rattle.kk_counted.proofs.TokenSteps.{follows}
+use Rattle.kk_counted.specs.CountedCosts.{form_cost}
 use Rattle.rv_isa.specs.declared.asm.Action.TheVariants.{Label, Jump, Return}
 use Rattle.rv_isa.specs.AsmCode.{Line}
 use Rattle.rv_isa.specs.Frames.{Frame, put, received}
@@ -135,7 +136,7 @@ module _ (program : Lowering) where
         subst (λ ls. Follows_step program idle
         (token_at program (Tokened.give x) s.environment [] (waiting ∷ frames) s.heap tokens input)
         (turn_of ls s.frame (f ∷ fs) s.world)) (sym is)
-        (by_lines program 1 (m + 3) 100 (saved s.heap) idle
+        (by_lines program 1 (m + 3) form_cost (saved s.heap) idle
         (token_at program waiting.rest (record { variable = waiting.variable; value = value } ∷ waiting.environment) waiting.joins
         frames s.heap tokens input) t0 t1
         (return_runs (target program) s.frame f fs s.world placed.after x word values (has.values.words x bound) nothing gets)
@@ -212,7 +213,7 @@ module _ (program : Lowering) where
         (token_at program (Tokened.give x) s.environment (join ∷ outer) frames s.heap tokens input)
         (turn_of ls s.frame fs s.world))
         (sym is)
-        (by_lines program (1 + (1 + 1)) ((m + 2) + ((m + 2) + (m + 0))) 100 (saved s.heap) idle
+        (by_lines program (1 + (1 + 1)) ((m + 2) + ((m + 2) + (m + 0))) form_cost (saved s.heap) idle
         (token_at program join.rest (record { variable = join.variable; value = value } ∷ s.environment) outer frames s.heap tokens
         input)
         t0 t3 runs (omega arith) (let few = j.placed.short in omega arith) (λ n. fit (suc n))
@@ -254,7 +255,7 @@ module _ (program : Lowering) where
         let t0 = turn_of (acts Return (x ∷ []) ∷ placed.after) s.frame [] s.world in
         subst (λ ls. Follows_step program idle (token_at program (Tokened.give x) s.environment [] [] s.heap tokens input)
         (turn_of ls s.frame [] s.world)) (sym is)
-        (by_lines program 1 (m + 3) 100 (saved s.heap) idle
+        (by_lines program 1 (m + 3) form_cost (saved s.heap) idle
         ((upper program).step (token_at program (Tokened.give x) s.environment [] [] s.heap tokens input)).1 t0
         (ended (exited 0) s.world)
         (last_return_runs (target program) s.frame s.world placed.after x word (has.values.words x placed.marked.0) nothing)

@@ -31,8 +31,8 @@ use Rattle.rv_cells.proofs.Values.{HasValues}
 use Rattle.rv_cells.proofs.Runs.{turn_of}
 use Rattle.rv_cells.proofs.Spots.{Spot, saved}
 use Rattle.rv_cells.proofs.TokenLineCosts.{forms}
-use Rattle.rv_cells.proofs.TokenRelation.{Lowering, texts, setting, upper, lower, pace, root_in, Passing, At, IsAt, IsNear, MayStandFor, IsFitFrom, Related, Follows_step, HaveTokenCells}
-use Rattle.rv_cells.proofs.TokenContinuations.{machine_at, token_at, CodeSteps}
+use Rattle.rv_cells.proofs.TokenRelation.{Lowering, texts, setting, upper, lower, pace, root_in, Passing, At, IsAt, IsNear, MayStandFor, IsFitFrom, Related, HaveTokenCells}
+use Rattle.rv_cells.proofs.TokenContinuations.{machine_at, token_at, at_here, steps_at, CodeSteps}
 use Rattle.rv_cells.proofs.TokenReturns.{at_give}
 use Rattle.rv_cells.proofs.TokenCalls.{at_tail, shape_of, body_placed}
 use Rattle.rv_cells.proofs.TokenInnerBlocks.{at_inside, at_read}
@@ -84,25 +84,9 @@ module _ (program : Lowering) where
       → IsAt program code environment inner (machine_at program code environment inner frames heap tokens) input t
       → Follows_from credit idle (token_at program code environment inner frames heap tokens input) t
   stands_step code environment inner frames heap tokens input credit idle t credit_is idle_is fit is =
-      let s = is.spot in
-      let u = turn_of is.left s.frame is.fs s.world in
-      let first : IsFitFrom program (token_at program code s.environment inner frames s.heap tokens input)
-      → Follows_step program idle (token_at program code s.environment inner frames s.heap tokens input) u
-      = λ fits. at_code code idle inner frames tokens input s is.fs is.left idle_is at_spot fits in
-      let second : IsFitFrom program (token_at program code environment inner frames s.heap tokens input)
-      → Follows_step program idle (token_at program code environment inner frames s.heap tokens input) u
-      = subst (λ e. IsFitFrom program (token_at program code e inner frames s.heap tokens input)
-      → Follows_step program idle (token_at program code e inner frames s.heap tokens input) u) is.environment_is first in
-      let third : IsFitFrom program (token_at program code environment inner frames heap tokens input)
-      → Follows_step program idle (token_at program code environment inner frames heap tokens input) u
-      = subst (λ h. IsFitFrom program (token_at program code environment inner frames h tokens input)
-      → Follows_step program idle (token_at program code environment inner frames h tokens input) u) is.heap_is second in
-      subst (λ w. Follows_from credit idle (token_at program code environment inner frames heap tokens input) w) (sym is.turn_is)
-      (subst (λ c. Follows_from c idle (token_at program code environment inner frames heap tokens input) u) (sym credit_is)
-      (third fit))
-    where
-      at_spot : At program code inner frames tokens input is.spot is.fs is.left
-      at_spot = is.at
+      subst (λ c. Follows_from c idle (token_at program code environment inner frames heap tokens input) t) (sym credit_is)
+      (steps_at program (At program code inner frames tokens input) code environment inner frames heap tokens input idle t is
+      (λ fits. at_code code idle inner frames tokens input is.spot is.fs is.left idle_is is.at fits) fit)
 
   -- where it stands, or is near a comparison
   may_step : (code : Tokened) (environment : Environment) (inner : List TokenJoin) (frames : List TokenFrame) (heap : Heap)
@@ -282,13 +266,5 @@ module _ (program : Lowering) (main : TokenedFunction) (main_is : slice_get prog
         fit = fit;
         stands = inl (subst (λ (f : TokenedFunction). IsAt program f.body [] [] (machine_at program f.body [] [] [] [] no_tokens)
             input (asm_start lines (first_world program.pool input))) (sym body_is)
-            (record {
-              spot = start_spot;
-              fs = [];
-              left = lines.code;
-              environment_is = refl;
-              heap_is = refl;
-              turn_is = refl;
-              at = starts_at;
-            }));
+            (at_here program starts_at));
       }

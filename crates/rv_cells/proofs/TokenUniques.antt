@@ -13,8 +13,9 @@ use Rattle.kk_core.specs.CoreMachine.{bind_fields}
 use Rattle.kk_counted.specs.CountedCosts.{opening_cost}
 use Rattle.kk_counted.specs.CountedMachine.{Named, cell_named, used_values, other_values, opened_heap, unique_heap, NotStuck}
 use Rattle.kk_counted.specs.Heaps.{Heap, count_at, set_count, fields_held, more, dup_value, dup_all}
-use Rattle.kk_counted.specs.Lowerable.{AreBelow, AreNumbered, bound_list}
-use Rattle.kk_counted.specs.Marks.{field_marks, HaveMarks, HasMark}
+use Rattle.kk_counted.specs.CodePlaces.{code_at}
+use Rattle.kk_counted.specs.Lowerable.{AreBelow, AreFieldsNumbered, AreNumbered, bound_list}
+use Rattle.kk_counted.specs.Marks.{field_marks, HaveMarks, Opens as OpensMarked, HasMark}
 use Rattle.kk_counted.specs.References.{refs, IsSound, cells_of}
 use Rattle.kk_counted.specs.Spending.{AreApart}
 use Rattle.kk_counted.specs.TokenKeeping.{Lists, IsJudged, ListsAfter, AreKeptBy}
@@ -37,15 +38,15 @@ use Rattle.rv_isa.specs.Frames.{Frame}
 use Rattle.cell_heap.specs.Blocks.{Cells}
 use Rattle.rv_lower.specs.Lines.{sets, copies_to, acts}
 use Rattle.rv_cells.specs.CellLines.{drops_lines, token_ends, TokenUniqueLines}
-use Rattle.rv_cells.specs.Layout.{words_in, header_of}
+use Rattle.rv_cells.specs.Layout.{words_in, header_of, first_field}
 use Rattle.rv_cells.specs.CountedCells.{AreFrom, Owner, cell_of, in_hand, is_aside}
-use Rattle.rv_cells.specs.TokenedLines.{CodeLines, HasSlots, IsOf, Keeps, MayFill}
+use Rattle.rv_cells.specs.TokenedLines.{CodeLines, OpeningLines, HasSlots, IsOf, Keeps, MayFill}
 use Rattle.rv_cells.proofs.NameContents.{some-is}
 use Rattle.rv_cells.proofs.BoundVariables.{AreWithin, marks_are}
 use Rattle.rv_cells.proofs.UsedCells.{named_cell}
 use Rattle.rv_cells.proofs.Rows.{then_some, IsReading}
 use Rattle.rv_cells.proofs.CountOpenings.{others_of}
-use Rattle.rv_cells.proofs.FormPlaces.{tree, no_part, tree_in, Next, stands_behind, entry_lines, entry_passed, lines_before_entry, behind_entry, entry_is_part, fill_there}
+use Rattle.rv_cells.proofs.FormPlaces.{Tree, tree, part, no_part, parts_of, IsPart, tree_in, entry_part, Next, stands_behind, entry_lines, entry_passed, lines_before_entry, behind_entry, entry_is_part, fill_there}
 use Rattle.rv_cells.proofs.LineCosts.{most_moves, row_cost}
 use Rattle.rv_cells.proofs.Openings.{bound_older, opened_spot}
 use Rattle.rv_cells.proofs.Runs.{turn_of, Runs}
@@ -59,7 +60,7 @@ use Rattle.rv_cells.proofs.TokenLineCosts.{forms}
 use Rattle.rv_cells.proofs.TokenRelation.{SlotIs, IsTokenCell, token_words, HaveSlotValues, HaveTokenCells, StandsIn, AllStand, finds, held_values}
 use Rattle.rv_cells.proofs.TokenRelation.{Lowering, target, setting, upper, lines_setting, known_of, Shape, AllWait, At, IsFitFrom, Follows_step, by_near}
 use Rattle.rv_cells.proofs.TokenContents.{stand_set, opened_stands}
-use Rattle.rv_cells.proofs.TokenContinuations.{lands_leads, token_at, machine_at, CodeSteps, seen_action, silent_goes, does_by, GoesTo, GoesOn, stands_on, goes_on}
+use Rattle.rv_cells.proofs.TokenContinuations.{lands_leads, token_at, machine_at, CodeSteps, seen_action, silent_goes, does_by, near_here, CodeBehind, GoesOn, stands_on, goes_on}
 use Rattle.rv_cells.proofs.TokenContinuations.{kept_after}
 
 -- a slot is given another token, of which a frame has the value, and the values of the other unspent slots are the same
@@ -129,8 +130,8 @@ shared_counted n at used others heap next counts is =
     dups_counted at used (set_count at (suc n) heap) next (omega (arith, now)) is
 
 -- an opening that does not get stuck: its cell, and the heap behind it
-record Opened (o : Option Named) (heap : Named → Option Heap) (fields : List ℕ) (y : ℕ) (rest : Tokened) (environment : Environment)
-    (inner : List TokenJoin) (from : TokenConfiguration) : Type 0 where
+pub record Opened (o : Option Named) (heap : Named → Option Heap) (fields : List ℕ) (y : ℕ) (rest : Tokened)
+    (environment : Environment) (inner : List TokenJoin) (from : TokenConfiguration) : Type 0 where
   pub named : Named
   pub named_is : o ≡ Some named
   pub next : Heap
@@ -262,10 +263,8 @@ module _ (program : Lowering) (code : Tokened) (x c : ℕ) (fields used : List �
     pub filled : MayFill into y rest
     pub uniques : TokenUniqueLines (at.shape.variables + at.shape.slots) at.shape.holds at.does.placed.low
         (at.does.placed.low + 1) (at.does.placed.low + 2) x fields used (at.shape.variables + y) into own
-    pub lines : CodeLines (lines_setting program at.shape) at.shape.variables at.does.goal (at.does.placed.low + 2) rest more
-        at.does.placed.high
-    pub parts : at.does.placed.own ≡ own ++ more
-    pub part_is : GoesTo program code inner frames tokens input s fs left at rest own more (at.does.placed.low + 2) lines
+    pub behind : CodeBehind program code inner frames tokens input s fs left at rest own more (at.does.placed.low + 2)
+        (fields ++ s.bound)
     pub entry_is : (made : ℕ) → into ≡ Some made
         → Next (tree_in (lines_setting program at.shape) at.shape.variables at.does.goal at.does.placed.low code at.does.placed.own
         at.does.placed.high at.does.placed.lines)
@@ -277,17 +276,16 @@ module _ (program : Lowering) (code : Tokened) (x c : ℕ) (fields used : List �
     pub kinds : HaveMarks at.shape.holds fields (field_marks program.marks c)
     pub below : AreBelow at.shape.variables fields
     pub fields_apart : AreApart fields
-    pub marked : HasMark program.marks at.shape.holds at.shape.result (fields ++ s.bound) at.does.given (bare rest)
-    pub numbered : AreNumbered at.shape.variables (fields ++ s.bound) (bare rest)
     pub slot : y < at.shape.slots
-    pub has : HasSlots at.shape.slots rest
     pub is_of : IsOf at.shape.standing c
-    pub keeps : Keeps at.shape.standing rest
     pub none_held : at.lists.held ≡ []
     pub lists_after : (next : Lists) → ListsAfter code inner at.lists next
         → next ≡ record at.lists { unspent = y ∷ at.lists.unspent }
     pub weighs : (upper program).weight (token_at program code s.environment inner frames s.heap tokens input)
         ≡ opening_cost fields used + 0
+
+  -- What the machine with tokens does there: the cell that is opened, and the heap behind it.
+  pub record Opens : Type 0 where
     pub named : Named
     pub named_is : cell_named c (length fields) s.heap (value_of s.environment x) ≡ Some named
     pub next : Heap
@@ -298,11 +296,103 @@ module _ (program : Lowering) (code : Tokened) (x c : ℕ) (fields used : List �
         ≡ goes (machine_at program rest (bind_fields fields named.fields s.environment) inner frames next
         (opened_tokens (count_at next named.at) (length frames) y named.at tokens))
 
+  -- by an opening that does not get stuck, and whose heap is that of one by the count
+  pub opens_there : (heap : Named → Option Heap)
+      (there : Opened (cell_named c (length fields) s.heap (value_of s.environment x)) heap fields y rest s.environment inner
+      (machine_at program code s.environment inner frames s.heap tokens))
+      → token_code_step (setting program) code s.environment inner
+      (machine_at program code s.environment inner frames s.heap tokens)
+      ≡ token_open_step (cell_named c (length fields) s.heap (value_of s.environment x)) heap fields y rest s.environment inner
+      (machine_at program code s.environment inner frames s.heap tokens)
+      → unique_heap (count_at s.heap there.named.at) there.named.at (used_values used fields there.named.fields)
+      (other_values used fields there.named.fields) s.heap ≡ Some there.next → Opens
+  opens_there heap there step_is next_is = record {
+    named = there.named;
+    named_is = there.named_is;
+    next = there.next;
+    next_is = next_is;
+    step = step_is ∙ there.step;
+  }
+
+  -- Both forms that open a cell have such lines, such a code behind them, and the same said of their variables and slots.
+  pub opening_of : forms code ≡ suc (forms rest) → is_quiet code ≡ false
+      → code_at (bare code) (0 ∷ []) ≡ Some (bare rest)
+      → (lines : (own : List Line) × (more : List Line)
+      × OpeningLines (lines_setting program at.shape) at.shape.variables at.does.placed.low x fields used y rest own
+      × CodeLines (lines_setting program at.shape) at.shape.variables at.does.goal (at.does.placed.low + 2) rest more
+      at.does.placed.high
+      × (at.does.placed.own ≡ own ++ more))
+      → parts_of (tree_in (lines_setting program at.shape) at.shape.variables at.does.goal at.does.placed.low code
+      at.does.placed.own at.does.placed.high at.does.placed.lines)
+      ≡ entry_part lines.2.0 (at.shape.variables + y) (at.does.placed.low + 2)
+      (before_of program x fields used y at.shape at.does.placed.low lines.2.0 lines.0 lines.2.2) rest
+      (part (0 ∷ []) lines.0 (tree_in (lines_setting program at.shape) at.shape.variables at.does.goal (at.does.placed.low + 2) rest
+      lines.1 at.does.placed.high lines.3) no_part)
+      → OpensMarked program.marks at.shape.holds s.bound x c fields
+      × HasMark program.marks at.shape.holds at.shape.result (fields ++ s.bound) at.does.given (bare rest)
+      → AreFieldsNumbered at.shape.variables x fields × AreNumbered at.shape.variables (fields ++ s.bound) (bare rest)
+      → (y < at.shape.slots) × HasSlots at.shape.slots rest → IsOf at.shape.standing c × Keeps at.shape.standing rest
+      → at.lists.held ≡ []
+      → ((next : Lists) → ListsAfter code inner at.lists next → next ≡ record at.lists { unspent = y ∷ at.lists.unspent })
+      → (upper program).weight (token_at program code s.environment inner frames s.heap tokens input) ≡ opening_cost fields used + 0
+      → IsOpening
+  opening_of forms_are quiet code_is lines parts_are marked numbered has keeps none_held lists_after weighs =
+      let p = at.does.placed in
+      let v = at.shape.variables in
+      let before = before_of program x fields used y at.shape p.low lines.2.0 lines.0 lines.2.2 in
+      let rest_tree = tree_in (lines_setting program at.shape) v at.does.goal (p.low + 2) rest lines.1 p.high lines.3 in
+      let next_by = λ (own : List Line) (inner_tree : Tree).
+      subst (IsPart (record { way = 0 ∷ []; before = own; inner = inner_tree })) (sym parts_are) in
+      let list_below = below_list v fields s.bound numbered.0.0 at.has.below in
+      record {
+        forms_are = forms_are;
+        quiet = quiet;
+        own = lines.0;
+        more = lines.1;
+        into = lines.2.0;
+        filled = lines.2.1;
+        uniques = lines.2.2;
+        behind = record {
+          parts = lines.4;
+          lines = lines.3;
+          part_is = record {
+            way = 0 ∷ [];
+            is_part = next_by lines.0 rest_tree
+                (behind_entry lines.2.0 (v + y) (p.low + 2) before rest (part (0 ∷ []) lines.0 rest_tree no_part)
+                (record { way = 0 ∷ []; before = lines.0; inner = rest_tree }) (inl refl));
+            code_is = code_is;
+          };
+          older = within_front fields s.bound;
+          below = λ z is. list_below z (within_fields fields s.bound z is);
+          marked = marked.1;
+          numbered = numbered.1;
+          has = has.1;
+          keeps = keeps.1;
+        };
+        entry_is = λ made is. record {
+          way = 0 ∷ [];
+          is_part = next_by before (tree rest (entry_lines (v + y) made (p.low + 2)) no_part)
+              (entry_is_part lines.2.0 (v + y) (p.low + 2) before rest (part (0 ∷ []) lines.0 rest_tree no_part) made is);
+          code_is = code_is;
+        };
+        bound = marked.0.0;
+        apart = numbered.0.1.0;
+        kinds = marked.0.1.1;
+        below = numbered.0.0;
+        fields_apart = numbered.0.1.1;
+        slot = has.0;
+        is_of = keeps.0;
+        none_held = none_held;
+        lists_after = lists_after;
+        weighs = weighs;
+      }
+
 module _ (program : Lowering) (code : Tokened) (x c : ℕ) (fields used : List ℕ) (y : ℕ) (rest : Tokened) (idle : ℕ)
     (inner : List TokenJoin) (frames : List TokenFrame) (tokens : Tokens) (input : List ℕ) (s : Spot) (fs : List (Frame Line))
     (left : List Line) (idle_is : idle ≡ forms code) (at : At program code inner frames tokens input s fs left)
     (fit : IsFitFrom program (token_at program code s.environment inner frames s.heap tokens input))
-    (a : IsOpening program code x c fields used y rest inner frames tokens input s fs left at) where
+    (a : IsOpening program code x c fields used y rest inner frames tokens input s fs left at)
+    (o : Opens program code x c fields used y rest inner frames tokens input s fs left at) where
   abbrev n : ℕ
   n = length at.lists.older
 
@@ -310,10 +400,10 @@ module _ (program : Lowering) (code : Tokened) (x c : ℕ) (fields used : List �
   v = at.shape.variables
 
   abbrev at_name : ℕ
-  at_name = s.address a.named.at
+  at_name = s.address o.named.at
 
   abbrev opened_to : Frame Line → (ℕ → Owner) → Cells → Spot
-  opened_to frame owners cells = opened_spot (known_of program at.shape) s fields a.named.fields a.next frame owners cells
+  opened_to frame owners cells = opened_spot (known_of program at.shape) s fields o.named.fields o.next frame owners cells
 
   abbrev Steps_on : Type 0
   Steps_on = Follows_step program idle (token_at program code s.environment inner frames s.heap tokens input)
@@ -328,21 +418,21 @@ module _ (program : Lowering) (code : Tokened) (x c : ℕ) (fields used : List �
       LeadsTo (known_of program at.shape) (token_cost (known_of program at.shape) fields used) (a.own ++ after_lines) end
       fs fs s (opened_to frame owners cells) ((v + y) ∷ [])
 
-  long : length a.next ≡ length s.heap
-  long = eased_length (unique_heap (count_at s.heap a.named.at) a.named.at (used_values used fields a.named.fields)
-      (other_values used fields a.named.fields) s.heap) a.next a.next_is
-      (eased_unique (count_at s.heap a.named.at) a.named.at (used_values used fields a.named.fields)
-      (other_values used fields a.named.fields) s.heap refl)
+  long : length o.next ≡ length s.heap
+  long = eased_length (unique_heap (count_at s.heap o.named.at) o.named.at (used_values used fields o.named.fields)
+      (other_values used fields o.named.fields) s.heap) o.next o.next_is
+      (eased_unique (count_at s.heap o.named.at) o.named.at (used_values used fields o.named.fields)
+      (other_values used fields o.named.fields) s.heap refl)
     where
       eased_length : (o : Option Heap) (next : Heap) → o ≡ Some next → EasedTo s.heap o → length next ≡ length s.heap
       eased_length None next is eased = cc
       eased_length (Some one) next is eased = ap length (sym (some-is is)) ∙ eased.many
 
-  recounted : cells_of a.next ≡ cells_of s.heap
-  recounted = eased_cells (unique_heap (count_at s.heap a.named.at) a.named.at (used_values used fields a.named.fields)
-      (other_values used fields a.named.fields) s.heap) s.heap a.next a.next_is
-      (eased_unique (count_at s.heap a.named.at) a.named.at (used_values used fields a.named.fields)
-      (other_values used fields a.named.fields) s.heap refl)
+  recounted : cells_of o.next ≡ cells_of s.heap
+  recounted = eased_cells (unique_heap (count_at s.heap o.named.at) o.named.at (used_values used fields o.named.fields)
+      (other_values used fields o.named.fields) s.heap) s.heap o.next o.next_is
+      (eased_unique (count_at s.heap o.named.at) o.named.at (used_values used fields o.named.fields)
+      (other_values used fields o.named.fields) s.heap refl)
 
   -- the cells of tokens are set aside
   token_is_aside : (z q : ℕ) → tokens.slots n z ≡ token q → is_aside (s.owners (s.address q)) ≡ true
@@ -355,13 +445,13 @@ module _ (program : Lowering) (code : Tokened) (x c : ℕ) (fields used : List �
   Steps_to after =
       token_code_step (setting program) code s.environment inner
       (machine_at program code s.environment inner frames s.heap tokens)
-      ≡ goes (machine_at program rest (bind_fields fields a.named.fields s.environment) inner frames a.next after)
+      ≡ goes (machine_at program rest (bind_fields fields o.named.fields s.environment) inner frames o.next after)
 
   -- the slot has its token, and the code may go on behind the opening
   abbrev goes_behind : (end : List Line) (frame : Frame Line) (owners : ℕ → Owner) (cells : Cells) → Leads_to end frame owners cells
       → (after : Tokens) (slot : Slot) → Steps_to after → slots_with n y slot tokens.slots ≡ after.slots
       → SlotIs s.address slot (frame.cells (v + y))
-      → HaveTokenCells program.pool program.layout s.address owners a.next after
+      → HaveTokenCells program.pool program.layout s.address owners o.next after
       → AllStand program.layout at.shape.standing s.address owners (after.slots n)
       → GoesOn program code inner frames tokens input s fs left at rest a.own a.more (opened_to frame owners cells) fs after
       (fields ++ s.bound) (record at.lists { unspent = y ∷ at.lists.unspent })
@@ -369,20 +459,11 @@ module _ (program : Lowering) (code : Tokened) (x c : ℕ) (fields used : List �
       let p = at.does.placed in
       let kept = subst (AllLead (AreKeptBy program.pool.cells (ListsAfter code inner at.lists))) step
       (kept_after program code inner frames tokens input s fs left at (fit 0).keeps a.quiet) in
-      let list_below = below_list v fields s.bound a.below at.has.below in
       record {
-        parts = a.parts;
         low = p.low + 2;
-        lines = a.lines;
-        part_is = a.part_is;
+        behind = a.behind;
         within = within_fields fields s.bound;
-        older = within_front fields s.bound;
-        below = λ z is. list_below z (within_fields fields s.bound z is);
-        marked = a.marked;
-        numbered = a.numbered;
-        has = a.has;
-        keeps = a.keeps;
-        judged = subst (λ (l : Lists). IsJudged program.pool.cells l.left l.unspent l.held l.older rest inner frames a.next after)
+        judged = subst (λ (l : Lists). IsJudged program.pool.cells l.left l.unspent l.held l.older rest inner frames o.next after)
             (a.lists_after kept.0 kept.1.0) kept.1.1;
         cells = token_cells;
         stand = stand;
@@ -390,7 +471,7 @@ module _ (program : Lowering) (code : Tokened) (x c : ℕ) (fields used : List �
             (ap (λ (sl : ℕ → ℕ → Slot). sl n y) (sym slots_is) ∙ slot_here n y slot tokens.slots) value
             (λ z differ. ap (λ (sl : ℕ → ℕ → Slot). sl n z) (sym slots_is) ∙ slot_there n y n z slot tokens.slots (another n y z differ))
             (λ z differ low. leads.spared (v + z) (omega (arith, low)) (alone_value v y z differ)
-            (none_behind (bound_list fields s.bound) v z list_below));
+            (none_behind (bound_list fields s.bound) v z (below_list v fields s.bound a.below at.has.below)));
         held_is = leads.held ∙ at.has.held_is ∙ ap (held_values (tokens.slots n) v) a.none_held
             ∙ sym (ap (held_values (after.slots n) v) a.none_held);
         waits = subst (λ m. AllWait program s.address m after.slots at.lists.older frames fs at.shape.result) (sym long)
@@ -411,7 +492,7 @@ module _ (program : Lowering) (code : Tokened) (x c : ℕ) (fields used : List �
   finish : (frame : Frame Line) (owners : ℕ → Owner) (cells : Cells) → Leads_to after_lines frame owners cells → (after : Tokens)
       (slot : Slot) → Steps_to after → slots_with n y slot tokens.slots ≡ after.slots
       → SlotIs s.address slot (frame.cells (v + y))
-      → HaveTokenCells program.pool program.layout s.address owners a.next after
+      → HaveTokenCells program.pool program.layout s.address owners o.next after
       → AllStand program.layout at.shape.standing s.address owners (after.slots n) → Steps_on
   finish frame owners cells leads after slot step slots_is value token_cells stand =
       let few = at.does.placed.short in
@@ -434,9 +515,9 @@ module _ (program : Lowering) (code : Tokened) (x c : ℕ) (fields used : List �
   finish_filling : (made : ℕ) (behind : List Line) → a.into ≡ Some made
       → a.own ++ after_lines ≡ before_entry ++ (entry made ++ behind)
       → (frame : Frame Line) (owners : ℕ → Owner) (cells : Cells) → Leads_to (entry made ++ behind) frame owners cells
-      → (after : Tokens) → Steps_to after → slots_with n y (token a.named.at) tokens.slots ≡ after.slots
-      → SlotIs s.address (token a.named.at) (frame.cells (v + y))
-      → HaveTokenCells program.pool program.layout s.address owners a.next after
+      → (after : Tokens) → Steps_to after → slots_with n y (token o.named.at) tokens.slots ≡ after.slots
+      → SlotIs s.address (token o.named.at) (frame.cells (v + y))
+      → HaveTokenCells program.pool program.layout s.address owners o.next after
       → AllStand program.layout at.shape.standing s.address owners (after.slots n) → Steps_on
   finish_filling made behind made_is lines_are frame owners cells leads after step slots_is value token_cells stand =
       let p = at.does.placed in
@@ -447,72 +528,57 @@ module _ (program : Lowering) (code : Tokened) (x c : ℕ) (fields used : List �
       let cheap = opening_cheap in
       let within = leads.within in
       let start = token_at program code s.environment inner frames s.heap tokens input in
-      let end = token_at program rest (bind_fields fields a.named.fields s.environment) inner frames a.next after input in
+      let end = token_at program rest (bind_fields fields o.named.fields s.environment) inner frames o.next after input in
       let t0 = turn_of left s.frame fs s.world in
       let t1 = turn_of (entry made ++ behind) frame fs to.world in
       let left_is : left ≡ before_entry ++ (entry made ++ behind)
-      = p.left_is ∙ ap (λ ls. ls ++ p.after) a.parts ∙ append_assoc a.own a.more p.after ∙ lines_are in
+      = p.left_is ∙ ap (λ ls. ls ++ p.after) a.behind.parts ∙ append_assoc a.own a.more p.after ∙ lines_are in
       let own_is : left ≡ a.own ++ after_lines
-      = p.left_is ∙ ap (λ ls. ls ++ p.after) a.parts ∙ append_assoc a.own a.more p.after in
-      let fill = fill_there made y rest (subst (λ into. MayFill into y rest) made_is a.filled) in
+      = p.left_is ∙ ap (λ ls. ls ++ p.after) a.behind.parts ∙ append_assoc a.own a.more p.after in
       let short : forms rest ≤ program.most = omega (arith, few, forms_are) in
       does_by program idle start end [] t0
       (ap (λ action. seen_action program action input) step
-      ∙ silent_goes program (machine_at program rest (bind_fields fields a.named.fields s.environment) inner frames a.next after)
+      ∙ silent_goes program (machine_at program rest (bind_fields fields o.named.fields s.environment) inner frames o.next after)
       input) fit
       (λ fits. by_near program leads.steps leads.cost ((upper program).weight start) (saved s.heap) idle end t0 t1
       (subst (λ ls. Runs (target program) leads.cost leads.steps (turn_of ls s.frame fs s.world) t1) (sym own_is) leads.runs)
       (omega (arith, cheap, within)) (omega (arith, idle_is, forms_are)) fits
-      (inr (record {
-        spot = landed;
-        fs = fs;
-        left = entry made ++ behind;
-        environment_is = refl;
-        heap_is = refl;
-        turn_is = refl;
-        follows = leads.here.follows;
-        near = inr (inr (record {
-          x = made;
-          y = y;
-          c = fill.c;
-          first = fill.first;
-          arguments = fill.arguments;
-          kept = fill.kept;
-          others = fill.others;
-          rest = fill.rest;
-          code_is = fill.is;
-          there = after_lines;
-          at = stands_on program code inner frames tokens input s fs left at rest a.own a.more to fs after (fields ++ s.bound)
-              (record at.lists { unspent = y ∷ at.lists.unspent }) leads.here leads.left leads.whole leads.function
-              (goes_behind (entry made ++ behind) frame owners cells leads after (token a.named.at) step slots_is value token_cells
-              stand) short;
-          q = a.named.at;
-          has = ap (λ (sl : ℕ → ℕ → Slot). sl n y) (sym slots_is) ∙ slot_here n y (token a.named.at) tokens.slots;
-          after = behind;
-          left_is = refl;
-          before = p.before ++ before_entry;
-          place = leads.whole ∙ p.place ∙ ap (λ ls. p.before ++ ls) left_is
-              ∙ sym (append_assoc p.before before_entry (entry made ++ behind));
-          stands = stands_behind p.stands (a.entry_is made made_is);
-        }));
-      })))
+      (inr (near_here program rest inner frames after input landed fs (entry made ++ behind) leads.here.follows
+      (inr (inr (record {
+        x = made;
+        y = y;
+        fill = fill_there made y rest (subst (λ into. MayFill into y rest) made_is a.filled);
+        there = after_lines;
+        at = stands_on program code inner frames tokens input s fs left at rest a.own a.more to fs after (fields ++ s.bound)
+            (record at.lists { unspent = y ∷ at.lists.unspent }) leads.here leads.left leads.whole leads.function
+            (goes_behind (entry made ++ behind) frame owners cells leads after (token o.named.at) step slots_is value token_cells
+            stand) short;
+        q = o.named.at;
+        has = ap (λ (sl : ℕ → ℕ → Slot). sl n y) (sym slots_is) ∙ slot_here n y (token o.named.at) tokens.slots;
+        after = behind;
+        left_is = refl;
+        before = p.before ++ before_entry;
+        place = leads.whole ∙ p.place ∙ ap (λ ls. p.before ++ ls) left_is
+            ∙ sym (append_assoc p.before before_entry (entry made ++ behind));
+        stands = stands_behind p.stands (a.entry_is made made_is);
+      }))))))
 
   -- a cell of one reference: it is the slot's token
   gains : (end : List Line) (frame : Frame Line) (owners : ℕ → Owner) (cells : Cells) → Leads_to end frame owners cells
-      → ((after : Tokens) → Steps_to after → slots_with n y (token a.named.at) tokens.slots ≡ after.slots
-      → SlotIs s.address (token a.named.at) (frame.cells (v + y))
-      → HaveTokenCells program.pool program.layout s.address owners a.next after
+      → ((after : Tokens) → Steps_to after → slots_with n y (token o.named.at) tokens.slots ≡ after.slots
+      → SlotIs s.address (token o.named.at) (frame.cells (v + y))
+      → HaveTokenCells program.pool program.layout s.address owners o.next after
       → AllStand program.layout at.shape.standing s.address owners (after.slots n) → Steps_on)
-      → count_at s.heap a.named.at ≡ 1
-      → HasCell s (opened_to frame owners cells) (v + y) at_name (words_in program.layout s.address a.named.fields)
+      → count_at s.heap o.named.at ≡ 1
+      → HasCell s (opened_to frame owners cells) (v + y) at_name (words_in program.layout s.address o.named.fields)
       (header_of program.layout c) → Steps_on
-  gains end frame owners cells leads finishes once has = by (count_at a.next a.named.at) refl
+  gains end frame owners cells leads finishes once has = by (count_at o.next o.named.at) refl
     where
-      owns : s.owners at_name ≡ cell_of a.named.at
-      owns = at.follows.named a.named.at (omega (arith, once))
+      owns : s.owners at_name ≡ cell_of o.named.at
+      owns = at.follows.named o.named.at (omega (arith, once))
 
-      fields_are : fields_held s.heap a.named.at ≡ a.named.fields
-      fields_are = named_fields c (length fields) s.heap (value_of s.environment x) a.named a.named_is
+      fields_are : fields_held s.heap o.named.at ≡ o.named.fields
+      fields_are = named_fields c (length fields) s.heap (value_of s.environment x) o.named o.named_is
 
       token_same : {q r : ℕ} → token q ≡ token r → q ≡ r
       token_same e = cc e
@@ -522,33 +588,33 @@ module _ (program : Lowering) (code : Tokened) (x c : ℕ) (fields used : List �
           let both : true ≡ false = sym (token_is_aside z q is) ∙ ap (λ (place : ℕ). is_aside (s.owners place)) e
           ∙ ap is_aside owns in cc both
 
-      plain_mark : (mark : Mark) → tokens.marks a.named.at ≡ mark → tokens.marks a.named.at ≡ plain
+      plain_mark : (mark : Mark) → tokens.marks o.named.at ≡ mark → tokens.marks o.named.at ≡ plain
       plain_mark plain is = is
       plain_mark (token_of f z) is =
-          (let none = at.judged.are.pooled.uncounted f z a.named.at is in absurd (omega (arith, none, once)))
+          (let none = at.judged.are.pooled.uncounted f z o.named.at is in absurd (omega (arith, none, once)))
 
       free_slot : is_linked n y tokens.chain ≡ false
       free_slot = ap (is_linked n y) at.judged.are.chain
           ∙ not_linked tokens.slots at.lists.held at.lists.older y (ap (λ (ys : List ℕ). is_among ys y) a.none_held)
 
-      by : (count : ℕ) → count_at a.next a.named.at ≡ count → Steps_on
+      by : (count : ℕ) → count_at o.next o.named.at ≡ count → Steps_on
       by zero counts =
           let many = frames_many tokens.slots at.lists.older frames at.judged.waiting in
-          finishes (gained n y a.named.at tokens)
-          (a.step ∙ ap (λ k. goes (machine_at program rest (bind_fields fields a.named.fields s.environment) inner frames a.next
-          (opened_tokens k (length frames) y a.named.at tokens))) counts
-          ∙ ap (λ f. goes (machine_at program rest (bind_fields fields a.named.fields s.environment) inner frames a.next
-          (gained f y a.named.at tokens))) many)
+          finishes (gained n y o.named.at tokens)
+          (o.step ∙ ap (λ k. goes (machine_at program rest (bind_fields fields o.named.fields s.environment) inner frames o.next
+          (opened_tokens k (length frames) y o.named.at tokens))) counts
+          ∙ ap (λ f. goes (machine_at program rest (bind_fields fields o.named.fields s.environment) inner frames o.next
+          (gained f y o.named.at tokens))) many)
           refl has.value
-          (cell_comes at.cells program.aligned n y a.named.at owners a.next (gained n y a.named.at tokens)
-          (named_cell program.aligned at.follows a.named.at (omega (arith, once))).cell
-          (counted_within s.heap a.named.at 0 once) (plain_mark (tokens.marks a.named.at) refl) refl refl long
-          (λ q. recounted_words program.layout s.address s.heap a.next q recounted)
-          (subst (λ b. IsTokenCell b (token_words program.layout s.address s.heap a.named.at) (owners at_name))
+          (cell_comes at.cells program.aligned n y o.named.at owners o.next (gained n y o.named.at tokens)
+          (named_cell program.aligned at.follows o.named.at (omega (arith, once))).cell
+          (counted_within s.heap o.named.at 0 once) (plain_mark (tokens.marks o.named.at) refl) refl refl long
+          (λ q. recounted_words program.layout s.address s.heap o.next q recounted)
+          (subst (λ b. IsTokenCell b (token_words program.layout s.address s.heap o.named.at) (owners at_name))
           (sym free_slot) (
             has.words,
             has.hand,
-            subst (AreFrom has.words 2) (ap (words_in program.layout s.address) (sym fields_are)) has.fields_are,
+            subst (AreFrom has.words first_field) (ap (words_in program.layout s.address) (sym fields_are)) has.fields_are,
           ))
           (ap is_aside owns)
           (λ z linked ws differ is. subst (IsTokenCell linked ws)
@@ -556,36 +622,36 @@ module _ (program : Lowering) (code : Tokened) (x c : ℕ) (fields used : List �
           (λ z differ. same_bools (is_aside (owners z)) (is_aside (s.owners z))
           (λ is. sym (ap is_aside (has.was z differ is)) ∙ is) (λ is. ap is_aside (has.aside z differ is) ∙ is)))
           (stand_set program.layout at.shape.standing s.address s.owners owners (tokens.slots n)
-          (slots_with n y (token a.named.at) tokens.slots n) y
-          (λ q is. let same : a.named.at ≡ q = token_same (sym (slot_here n y (token a.named.at) tokens.slots) ∙ is) in
+          (slots_with n y (token o.named.at) tokens.slots n) y
+          (λ q is. let same : o.named.at ≡ q = token_same (sym (slot_here n y (token o.named.at) tokens.slots) ∙ is) in
           subst (λ r. StandsIn program.layout at.shape.standing (owners (s.address r))) same
           (opened_stands program.layout at.shape.standing c (owners at_name) has.words a.is_of has.hand has.count_is has.header_is))
-          (λ z differ. slot_there n y n z (token a.named.at) tokens.slots (another n y z differ))
+          (λ z differ. slot_there n y n z (token o.named.at) tokens.slots (another n y z differ))
           (λ z q differ is. has.aside (s.address q) (aside_apart z q is) (token_is_aside z q is)) at.stand)
       by (suc k) counts =
-          let both : in_hand has.words ≡ cell_of a.named.at = sym has.hand
-          ∙ leads.here.follows.named a.named.at (omega (arith, counts)) in cc
+          let both : in_hand has.words ≡ cell_of o.named.at = sym has.hand
+          ∙ leads.here.follows.named o.named.at (omega (arith, counts)) in cc
 
   -- a cell of several references: the slot is null
-  blanks : (frame : Frame Line) (owners : ℕ → Owner) (cells : Cells) → Leads_to after_lines frame owners cells → 1 ≤ count_at a.next
-      a.named.at
+  blanks : (frame : Frame Line) (owners : ℕ → Owner) (cells : Cells) → Leads_to after_lines frame owners cells → 1 ≤ count_at o.next
+      o.named.at
       → IsNull s (opened_to frame owners cells) (v + y) → Steps_on
-  blanks frame owners cells leads some has = by (count_at a.next a.named.at) refl
+  blanks frame owners cells leads some has = by (count_at o.next o.named.at) refl
     where
-      by : (count : ℕ) → count_at a.next a.named.at ≡ count → Steps_on
+      by : (count : ℕ) → count_at o.next o.named.at ≡ count → Steps_on
       by zero counts = absurd (omega (arith, some, counts))
       by (suc k) counts =
           let many = frames_many tokens.slots at.lists.older frames at.judged.waiting in
-          let stay = cells_stay at.cells s.address owners a.next (λ f z q is. refl)
-          (λ f z q is. recounted_words program.layout s.address s.heap a.next q recounted)
+          let stay = cells_stay at.cells s.address owners o.next (λ f z q is. refl)
+          (λ f z q is. recounted_words program.layout s.address s.heap o.next q recounted)
           (λ z linked ws is. subst (IsTokenCell linked ws) (sym (has.aside z (token_aside linked ws (s.owners z) is))) is)
           (λ z. same_bools (is_aside (owners z)) (is_aside (s.owners z))
           (λ is. sym (ap is_aside (has.was z is)) ∙ is) (λ is. ap is_aside (has.aside z is) ∙ is))
           (ap (marked tokens.marks) long) in
           finish frame owners cells leads (blanked n y null tokens) null
-          (a.step ∙ ap (λ j. goes (machine_at program rest (bind_fields fields a.named.fields s.environment) inner frames a.next
-          (opened_tokens j (length frames) y a.named.at tokens))) counts
-          ∙ ap (λ f. goes (machine_at program rest (bind_fields fields a.named.fields s.environment) inner frames a.next
+          (o.step ∙ ap (λ j. goes (machine_at program rest (bind_fields fields o.named.fields s.environment) inner frames o.next
+          (opened_tokens j (length frames) y o.named.at tokens))) counts
+          ∙ ap (λ f. goes (machine_at program rest (bind_fields fields o.named.fields s.environment) inner frames o.next
           (blanked f y null tokens))) many)
           refl has.value (record { are = stay.are; apart = stay.apart; number = stay.number })
           (stand_set program.layout at.shape.standing s.address s.owners owners (tokens.slots n)
@@ -600,9 +666,9 @@ module _ (program : Lowering) (code : Tokened) (x c : ℕ) (fields used : List �
       let known = known_of program at.shape in
       let counts = (fit 0).bare.counts (bare code) s.environment (map bare_join inner) refl in
       let here : Here known s = record { follows = at.follows; values = at.has.values } in
-      let reads : IsReading known s x c fields a.named = record {
+      let reads : IsReading known s x c fields o.named = record {
         bound = a.bound;
-        is = a.named_is;
+        is = o.named_is;
         below = below_more v (at.shape.variables + at.shape.slots) fields (omega arith) a.below;
         apart = a.apart;
         kinds = marks_are at.shape.holds fields (field_marks program.marks c) a.kinds ∙ sym (program.fields_are c);
@@ -614,28 +680,28 @@ module _ (program : Lowering) (code : Tokened) (x c : ℕ) (fields used : List �
       let low = a.slot in
       let token_low : v + y < at.shape.variables + at.shape.slots = omega arith in
       let spare = none_behind (bound_list fields s.bound) v y (below_list v fields s.bound a.below at.has.below) in
-      let first = head_lines known after fs s x c fields used p.low (p.low + 1) (p.low + 2) (v + y) a.into a.own a.named a.next here
+      let first = head_lines known after fs s x c fields used p.low (p.low + 1) (p.low + 2) (v + y) a.into a.own o.named o.next here
       reads
       a.fields_apart token_low spare a.uniques in
-      let shared = for_shared known after fs s x c fields used p.low (p.low + 1) (p.low + 2) (v + y) a.into a.own a.named a.next
+      let shared = for_shared known after fs s x c fields used p.low (p.low + 1) (p.low + 2) (v + y) a.into a.own o.named o.next
       here reads
       a.fields_apart token_low spare a.uniques in
-      let shared_rest = shared_lines known after fs s x c fields used p.low (p.low + 1) (p.low + 2) (v + y) a.into a.own a.named
-      a.next here reads
+      let shared_rest = shared_lines known after fs s x c fields used p.low (p.low + 1) (p.low + 2) (v + y) a.into a.own o.named
+      o.next here reads
       a.fields_apart token_low spare a.uniques in
       let behind = acts (Label (p.low + 1)) [] ∷ after in
       let whole : a.own ++ after_lines ≡ first ++ (shared ++ behind)
-      = whole_lines known after fs s x c fields used p.low (p.low + 1) (p.low + 2) (v + y) a.into a.own a.named a.next here reads
+      = whole_lines known after fs s x c fields used p.low (p.low + 1) (p.low + 2) (v + y) a.into a.own o.named o.next here reads
       a.fields_apart token_low spare a.uniques in
       let is : left ≡ first ++ (shared ++ behind)
-      = p.left_is ∙ ap (λ own. own ++ p.after) a.parts ∙ append_assoc a.own a.more p.after ∙ whole in
+      = p.left_is ∙ ap (λ own. own ++ p.after) a.behind.parts ∙ append_assoc a.own a.more p.after ∙ whole in
       let shared_at : s.frame.whole ≡ (p.before ++ first) ++ (shared ++ behind)
       = p.place ∙ ap (λ ls. p.before ++ ls) is ∙ sym (append_assoc p.before first (shared ++ behind)) in
       let behind_at : s.frame.whole ≡ ((p.before ++ first) ++ shared) ++ behind
       = shared_at ∙ sym (append_assoc (p.before ++ first) shared behind) in
-      let opened = opens_to_token known after fs s x c fields used p.low (p.low + 1) (p.low + 2) (v + y) a.into a.own a.named a.next
+      let opened = opens_to_token known after fs s x c fields used p.low (p.low + 1) (p.low + 2) (v + y) a.into a.own o.named o.next
       here reads
-      a.fields_apart token_low spare a.uniques a.next_is (λ name. let small = counts name in omega arith)
+      a.fields_apart token_low spare a.uniques o.next_is (λ name. let small = counts name in omega arith)
       (finds p.low s.frame.whole (p.before ++ first) (shared_rest ++ behind) at.has.formed shared_at)
       (finds (p.low + 1) s.frame.whole ((p.before ++ first) ++ shared) after at.has.formed behind_at) in
       let base = at.shape.variables + at.shape.slots in
@@ -647,7 +713,7 @@ module _ (program : Lowering) (code : Tokened) (x c : ℕ) (fields used : List �
       ∙ ap (λ into. before ((a.uniques.1 ++ (drops ++ token_ends into x (v + y) (p.low + 1) (p.low + 2))) ++ (shared ++ behind)))
       made_is
       ∙ ap before (entry_passed a.uniques.1 drops (entry made) (shared ++ behind) (copies_to x (v + y))) in
-      by (shared ++ behind) entered opened.0 opened.1 opened.2 (count_at s.heap a.named.at) a.into opened.3 refl refl a.next_is
+      by (shared ++ behind) entered opened.0 opened.1 opened.2 (count_at s.heap o.named.at) a.into opened.3 refl refl o.next_is
       opened.4
     where
       few_fields : (holds : ℕ → Bool) (k : ℕ) (xs : List ℕ) → HaveMarks holds xs (field_marks program.marks k) → length xs ≤ greatest_of Fields
@@ -662,23 +728,23 @@ module _ (program : Lowering) (code : Tokened) (x c : ℕ) (fields used : List �
           → ((made : ℕ) → a.into ≡ Some made → a.own ++ after_lines ≡ before_entry ++ (entry made ++ others))
           → (frame : Frame Line) (owners : ℕ → Owner) (cells : Cells) (count : ℕ) (into : Option ℕ)
           → Leads_to (comes_to count into (v + y) (at.does.placed.low + 2) after_lines others) frame owners cells
-          → count_at s.heap a.named.at ≡ count → a.into ≡ into
-          → unique_heap count a.named.at (used_values used fields a.named.fields) (other_values used fields a.named.fields) s.heap
-          ≡ Some a.next
-          → TokenIs count s (opened_to frame owners cells) (v + y) at_name (words_in program.layout s.address a.named.fields)
+          → count_at s.heap o.named.at ≡ count → a.into ≡ into
+          → unique_heap count o.named.at (used_values used fields o.named.fields) (other_values used fields o.named.fields) s.heap
+          ≡ Some o.next
+          → TokenIs count s (opened_to frame owners cells) (v + y) at_name (words_in program.layout s.address o.named.fields)
           (header_of program.layout c) → Steps_on
       by others are frame owners cells zero into leads counts same given is = absurd is
       by others are frame owners cells (suc zero) None leads counts same given is =
           gains after_lines frame owners cells leads
-          (λ after step slots value token_cells stand. finish frame owners cells leads after (token a.named.at) step slots value
+          (λ after step slots value token_cells stand. finish frame owners cells leads after (token o.named.at) step slots value
           token_cells stand) counts is
       by others are frame owners cells (suc zero) (Some made) leads counts same given is =
           gains (entry made ++ others) frame owners cells leads
           (finish_filling made others same (are made same) frame owners cells leads) counts is
       by others are frame owners cells (suc (suc m)) into leads counts same given is =
           blanks frame owners cells leads
-          (shared_counted m a.named.at (used_values used fields a.named.fields) (other_values used fields a.named.fields) s.heap
-          a.next counts given) is
+          (shared_counted m o.named.at (used_values used fields o.named.fields) (other_values used fields o.named.fields) s.heap
+          o.next counts given) is
 
 pub at_unique : (program : Lowering) (x c : ℕ) (fields used : List ℕ) (y : ℕ) (rest : Tokened)
     → CodeSteps program (Tokened.if_unique x c fields used y rest)
@@ -691,48 +757,9 @@ at_unique program x c fields used y rest idle inner frames tokens input s fs lef
     let there = opening_there (cell_named c (length fields) s.heap (value_of s.environment x)) opens fields y rest s.environment
     inner from input (fit 1).bare.going in
     steps_opening program code x c fields used y rest idle inner frames tokens input s fs left idle_is at fit
-    (record {
-      forms_are = refl;
-      quiet = refl;
-      own = p.lines.0;
-      more = p.lines.1;
-      into = p.lines.2.0;
-      filled = p.lines.2.1;
-      uniques = p.lines.2.2;
-      lines = p.lines.3;
-      parts = p.lines.4;
-      part_is = record {
-        way = 0 ∷ [];
-        is_part = behind_entry p.lines.2.0 (at.shape.variables + y) (p.low + 2) (before_of program x fields used y at.shape p.low
-            p.lines.2.0 p.lines.0 p.lines.2.2) rest _ _ (inl refl);
-        code_is = refl;
-      };
-      entry_is = λ made is. record {
-        way = 0 ∷ [];
-        is_part = entry_is_part p.lines.2.0 (at.shape.variables + y) (p.low + 2) (before_of program x fields used y at.shape p.low
-            p.lines.2.0 p.lines.0 p.lines.2.2) rest _ made is;
-        code_is = refl;
-      };
-      bound = p.marked.0.0;
-      apart = p.numbered.0.1.0;
-      kinds = p.marked.0.1.1;
-      below = p.numbered.0.0;
-      fields_apart = p.numbered.0.1.1;
-      marked = p.marked.1;
-      numbered = p.numbered.1;
-      slot = p.has.0;
-      has = p.has.1;
-      is_of = p.keeps.0;
-      keeps = p.keeps.1;
-      none_held = at.judged.spends.0;
-      lists_after = λ next is. is;
-      weighs = refl;
-      named = there.named;
-      named_is = there.named_is;
-      next = there.next;
-      next_is = there.next_is;
-      step = there.step;
-    })
+    (opening_of program code x c fields used y rest inner frames tokens input s fs left at refl refl refl p.lines refl p.marked
+    p.numbered p.has p.keeps at.judged.spends.0 (λ next is. is) refl)
+    (opens_there program code x c fields used y rest inner frames tokens input s fs left at opens there refl there.next_is)
 
 -- An opening that does not go by the count gives up the reference to the cell when the fields in use have one more. The heap is
 -- sound before and behind it: so its heap is that of an opening by the count.
@@ -749,48 +776,9 @@ at_open program x c fields used y rest idle inner frames tokens input s fs left 
     let sound = subst (λ (action : Action TokenConfiguration). (owned : List Value)
     × IsSound owned (performed action input).1.machine.heap) there.step ((fit 1).bare.owned, (fit 1).bare.sound) in
     steps_opening program code x c fields used y rest idle inner frames tokens input s fs left idle_is at fit
-    (record {
-      forms_are = refl;
-      quiet = refl;
-      own = p.lines.0;
-      more = p.lines.1;
-      into = p.lines.2.0;
-      filled = p.lines.2.1;
-      uniques = p.lines.2.2;
-      lines = p.lines.3;
-      parts = p.lines.4;
-      part_is = record {
-        way = 0 ∷ [];
-        is_part = behind_entry p.lines.2.0 (at.shape.variables + y) (p.low + 2) (before_of program x fields used y at.shape p.low
-            p.lines.2.0 p.lines.0 p.lines.2.2) rest _ _ (inl refl);
-        code_is = refl;
-      };
-      entry_is = λ made is. record {
-        way = 0 ∷ [];
-        is_part = entry_is_part p.lines.2.0 (at.shape.variables + y) (p.low + 2) (before_of program x fields used y at.shape p.low
-            p.lines.2.0 p.lines.0 p.lines.2.2) rest _ made is;
-        code_is = refl;
-      };
-      bound = p.marked.0.0;
-      apart = p.numbered.0.1.0;
-      kinds = p.marked.0.1.1;
-      below = p.numbered.0.0;
-      fields_apart = p.numbered.0.1.1;
-      marked = p.marked.1;
-      numbered = p.numbered.1;
-      slot = p.has.0;
-      has = p.has.1;
-      is_of = p.keeps.0;
-      keeps = p.keeps.1;
-      none_held = at.judged.spends.0;
-      lists_after = λ next is. is;
-      weighs = refl;
-      named = there.named;
-      named_is = there.named_is;
-      next = there.next;
-      next_is = opens_by_count there.named.at (used_values used fields there.named.fields)
-          (other_values used fields there.named.fields) (fit 0).bare.owned sound.0 s.heap there.next (fit 0).bare.sound sound.1
-          there.next_is
-          (λ q. ap (λ vs. refs vs q) cell.fields ∙ fields_part used fields there.named.fields q cell.many);
-      step = there.step;
-    })
+    (opening_of program code x c fields used y rest inner frames tokens input s fs left at refl refl refl p.lines refl p.marked
+    p.numbered p.has p.keeps at.judged.spends.0 (λ next is. is) refl)
+    (opens_there program code x c fields used y rest inner frames tokens input s fs left at opens there refl
+    (opens_by_count there.named.at (used_values used fields there.named.fields) (other_values used fields there.named.fields)
+    (fit 0).bare.owned sound.0 s.heap there.next (fit 0).bare.sound sound.1 there.next_is
+    (λ q. ap (λ vs. refs vs q) cell.fields ∙ fields_part used fields there.named.fields q cell.many)))

@@ -3,6 +3,7 @@ use Rattle.std.proofs.Common.{◌≡◌, ◌≢◌, ◌≤◌, ◌<◌, ℕ, zer
 use Rattle.std.proofs.lemmas.Bool.{cases_eq}
 use Rattle.std.proofs.lemmas.Bool.Decides.{nat_tests}
 use Rattle.rv_isa.specs.Arithmetic.{bit_of}
+use Rattle.rv_isa.specs.Numbers.{cell_size}
 use Rattle.cell_heap.specs.Cells.{occurs}
 use Rattle.cell_heap.specs.Counts.{total}
 use Rattle.cell_heap.specs.Pool.{Pool, IsCell, places}
@@ -43,7 +44,7 @@ total-add : (f g : ℕ → ℕ) (xs : List ℕ) → total (λ x. f x + g x) xs �
 total-add f g [] = refl
 total-add f g (x ∷ xs) = let rest = total-add f g xs in omega arith
 
-place_once : (pool : Pool) → pool.first % 32 ≡ 0 → (at : ℕ) → IsCell pool at → occurs at (places pool) ≡ 1
+place_once : (pool : Pool) → pool.first % cell_size ≡ 0 → (at : ℕ) → IsCell pool at → occurs at (places pool) ≡ 1
 place_once pool aligned at cell =
     let whole = cell.aligned in
     occurs-cells at pool.first pool.cells cell.behind cell.before (omega arith)
@@ -59,7 +60,7 @@ same_aside pool owners others same =
     total-same (λ at. bit_of (is_aside (owners at))) (λ at. bit_of (is_aside (others at))) (places pool) (λ at. ap bit_of (same at))
 
 -- where one cell alone is set aside, or is so no more
-pub one_aside : (pool : Pool) → pool.first % 32 ≡ 0 → (at : ℕ) (owners others : ℕ → Owner) → IsCell pool at
+pub one_aside : (pool : Pool) → pool.first % cell_size ≡ 0 → (at : ℕ) (owners others : ℕ → Owner) → IsCell pool at
     → ((x : ℕ) → x ≢ at → is_aside (others x) ≡ is_aside (owners x))
     → set_aside pool others + bit_of (is_aside (owners at)) ≡ set_aside pool owners + bit_of (is_aside (others at))
 one_aside pool aligned at owners others cell same =
@@ -67,7 +68,7 @@ one_aside pool aligned at owners others cell same =
     (λ x differ. ap bit_of (same x differ)) (place_once pool aligned at cell)
 
 -- once one address has another owner
-pub aside_with : (pool : Pool) → pool.first % 32 ≡ 0 → (at : ℕ) (owner : Owner) (owners : ℕ → Owner) → IsCell pool at
+pub aside_with : (pool : Pool) → pool.first % cell_size ≡ 0 → (at : ℕ) (owner : Owner) (owners : ℕ → Owner) → IsCell pool at
     → set_aside pool (with_owner at owner owners) + bit_of (is_aside (owners at)) ≡ set_aside pool owners + bit_of (is_aside owner)
 aside_with pool aligned at owner owners cell =
     let change = one_aside pool aligned at owners (with_owner at owner owners) cell
@@ -123,7 +124,7 @@ used-most (in_hand words) = omega arith
 used-most (kept_aside words) = omega arith
 
 module _ {pool : Pool} {layout : Layout} {address : ℕ → ℕ} {owners : ℕ → Owner} {heap : Heap} {cells : Cells}
-    (aligned : pool.first % 32 ≡ 0) (follows : Follows pool layout address owners heap cells) where
+    (aligned : pool.first % cell_size ≡ 0) (follows : Follows pool layout address owners heap cells) where
   -- what stands at the address of a cell that somebody owns
   pub owned_cell : (name at : ℕ) → owners at ≡ cell_of name → IsCellOf pool layout address heap name at (cells.blocks at)
   owned_cell name at is = subst (λ o. BlockOf pool layout address heap at o (cells.blocks at)) is (follows.blocks at)

@@ -13,7 +13,7 @@ use Rattle.cell_runtime.specs.World.{World, with_cells}
 use Rattle.rv_lower.specs.Lines.{sets}
 use Rattle.rv_lower.proofs.Calls.{HaveWords}
 use Rattle.rv_lower.proofs.FormEffects.{put_same, put_other}
-use Rattle.rv_cells.specs.Layout.{Layout}
+use Rattle.rv_cells.specs.Layout.{Layout, first_field}
 use Rattle.rv_cells.specs.CountedCells.{AreFrom, Owner}
 use Rattle.rv_cells.specs.CellLines.{SetIf, SomeWords, is_kept}
 use Rattle.rv_cells.proofs.CellActions.{put_in, sets_runs}
@@ -91,7 +91,7 @@ module _ (head count : Bool) (kept : List ℕ) (header : ℕ) (ws : List ℕ) (w
         word_other (not count) 0 1 1 fields_now (λ e. omega (arith, e))
         ∙ some_below (is_kept false kept) 2 0 1 ws first_now (omega arith) ∙ word_there head 1 header words has.header_is
 
-    pub fields_behind : AreFrom words_behind 2 ws
+    pub fields_behind : AreFrom words_behind first_field ws
     fields_behind =
         from_if (not count) 0 1 2 fields_now ws (omega arith)
         (all_written kept 2 0 ws first_now

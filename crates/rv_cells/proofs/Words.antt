@@ -3,14 +3,14 @@ use Rattle.std.proofs.Common.{◌≡◌, ◌≢◌, ◌≤◌, ◌<◌, ℕ, suc
 use mathlib.Core.Path.{fun_ext}
 use Rattle.std.proofs.lemmas.Bool.{cases_eq}
 use Rattle.std.proofs.lemmas.Bool.Decides.{nat_tests}
-use Rattle.rv_isa.specs.Numbers.{cell_words}
+use Rattle.rv_isa.specs.Numbers.{cell_words, cell_size}
 use Rattle.cell_heap.specs.Pool.{Pool, IsCell}
 use Rattle.cell_heap.specs.Blocks.{own, kept, Cells, with_block, with_word, index_of, load, store}
 use Rattle.kk_source.specs.State.{Value, integer, unit, constant, place, Cell}
 use Rattle.kk_source.specs.Sound.{Within, AllWithin}
 use Rattle.kk_counted.specs.Heaps.{Held, Heap, count_in, count_at, set_count, fields_held}
 use Rattle.kk_counted.proofs.CountChanges.{count_set}
-use Rattle.rv_cells.specs.Layout.{Layout, word_in, words_in}
+use Rattle.rv_cells.specs.Layout.{Layout, word_in, words_in, first_field}
 use Rattle.rv_cells.specs.CountedCells.{AreFrom, IsBlockOf, Owner, cell_of, in_hand, kept_aside, IsCellOf, BlockOf, Follows, with_owner, assign}
 use Rattle.rv_cells.proofs.NameContents.{held_new, held_older, held_within, held_set, held_other, held_fields}
 use Rattle.rv_cells.proofs.Owners.{chosen_by, chosen_same, chosen_other, own-unused, own-words, Stays, put_owner, chain_over}
@@ -20,7 +20,7 @@ use Rattle.rv_cells.proofs.Owners.{chosen_by, chosen_same, chosen_other, own-unu
 pub index_at : (i : ℕ) → i < cell_words → index_of (4 * i) ≡ Some i
 index_at i low =
     let whole : nat_eq ((4 * i) % 4) 0 ≡ true = grind (arith, nat_tests) in
-    let below : nat_lt (4 * i) 32 ≡ true = grind (arith, nat_tests) in
+    let below : nat_lt (4 * i) cell_size ≡ true = grind (arith, nat_tests) in
     let index : (4 * i) / 4 ≡ i = omega arith in
     rw (whole, below) (ap Some index)
 
@@ -134,7 +134,8 @@ module _ {pool : Pool} {layout : Layout} {address : ℕ → ℕ} {owners : ℕ �
         shows = record {
           count = shows.count;
           header = shows.header;
-          fields = subst (AreFrom words 2) (sym (words_older layout (length heap) at address cell.fields within)) shows.fields;
+          fields = subst (AreFrom words first_field) (sym (words_older layout (length heap) at address cell.fields within))
+              shows.fields;
           fits = shows.fits;
         };
       })
@@ -215,7 +216,7 @@ module _ {pool : Pool} {layout : Layout} {address : ℕ → ℕ} {owners : ℕ �
           count = refl;
           header = ap (λ f. f 1) (sym same) ∙ stands.shows.header;
           fields = from_later 0 (suc j) 2 words (words_in layout address stands.held.cell.fields) (omega arith)
-              (subst (λ f. AreFrom f 2 (words_in layout address stands.held.cell.fields)) same stands.shows.fields);
+              (subst (λ f. AreFrom f first_field (words_in layout address stands.held.cell.fields)) same stands.shows.fields);
           fits = stands.shows.fits;
         };
       })

@@ -47,7 +47,7 @@ use Rattle.rv_lower.specs.Lines.{computes, sets, copies_to, acts}
 use Rattle.rv_lower.specs.Written.{lines_written, Wrote, WroteLines, TookLabel}
 use Rattle.rv_lower.proofs.WrittenLines.{wrote_then}
 use Rattle.rv_lower.proofs.CodeGrowth.{grows_of, grows_took, grows_then, grows_more}
-use Rattle.rv_cells.specs.Layout.{Layout}
+use Rattle.rv_cells.specs.Layout.{Layout, first_field}
 use Rattle.rv_cells.specs.CellLines.{Loads, Stores, AllLoads, AllStores, StoresIf, SomeStores, is_kept, Walks, walked, spare, dups_lines, drops_lines, ConstructLines}
 use Rattle.rv_cells.specs.CellLines.{SetIf, SomeWords, FillLines, hold_lines, unhold_lines, token_ends, TokenUniqueLines}
 use Rattle.rv_cells.specs.CountedLines.{
@@ -103,11 +103,11 @@ more_stores cell i x (y ∷ xs) lines line all one = (
   ap (λ ls. ls ++ line ∷ []) all.4,
 )
 
-pub loads_more : (cell n index : ℕ) (xs : List ℕ) (lines : List Line) (line : Line) → n < length xs → index ≡ 2 + n
-    → AllLoads cell 2 (take n xs) lines → Loads cell index (get_or xs n 0) line
-    → AllLoads cell 2 (take (n + 1) xs) (lines ++ line ∷ [])
+pub loads_more : (cell n index : ℕ) (xs : List ℕ) (lines : List Line) (line : Line) → n < length xs → index ≡ first_field + n
+    → AllLoads cell first_field (take n xs) lines → Loads cell index (get_or xs n 0) line
+    → AllLoads cell first_field (take (n + 1) xs) (lines ++ line ∷ [])
 loads_more cell n index xs lines line less is all one =
-    subst (λ ys. AllLoads cell 2 ys (lines ++ line ∷ [])) (sym (take_more xs n 0 less))
+    subst (λ ys. AllLoads cell first_field ys (lines ++ line ∷ [])) (sym (take_more xs n 0 less))
     (more_loads cell 2 (get_or xs n 0) (take n xs) lines line all
     (subst (λ i. Loads cell i (get_or xs n 0) line) (is ∙ ap (λ m. 2 + m) (sym (length_taken xs n less))) one))
 
@@ -140,11 +140,11 @@ more_some takes cell i position from (x ∷ xs) lines one all last = (
     one_on n k = omega arith
 
 pub some_more : (takes : ℕ → Bool) (cell n index position : ℕ) (xs : List ℕ) (lines one : List Line) → n < length xs
-    → index ≡ 2 + n → position ≡ n → SomeStores takes cell 2 0 (take n xs) lines
+    → index ≡ first_field + n → position ≡ n → SomeStores takes cell first_field 0 (take n xs) lines
     → StoresIf (takes position) cell index (get_or xs n 0) one
-    → SomeStores takes cell 2 0 (take (n + 1) xs) (lines ++ one)
+    → SomeStores takes cell first_field 0 (take (n + 1) xs) (lines ++ one)
 some_more takes cell n index position xs lines one less is place all last =
-    subst (λ ys. SomeStores takes cell 2 0 ys (lines ++ one)) (sym (take_more xs n 0 less))
+    subst (λ ys. SomeStores takes cell first_field 0 ys (lines ++ one)) (sym (take_more xs n 0 less))
     (more_some takes cell 2 0 (get_or xs n 0) (take n xs) lines one all
     (subst (λ b. StoresIf b cell (2 + length (take n xs)) (get_or xs n 0) one)
     (ap takes (place ∙ sym (length_taken xs n less) ∙ none_before (length (take n xs))))
@@ -154,16 +154,16 @@ some_more takes cell n index position xs lines one less is place all last =
     none_before : (k : ℕ) → k ≡ 0 + k
     none_before k = omega arith
 
-pub stores_more : (cell n index : ℕ) (xs : List ℕ) (lines : List Line) (line : Line) → n < length xs → index ≡ 2 + n
-    → AllStores cell 2 (take n xs) lines → Stores cell index (get_or xs n 0) line
-    → AllStores cell 2 (take (n + 1) xs) (lines ++ line ∷ [])
+pub stores_more : (cell n index : ℕ) (xs : List ℕ) (lines : List Line) (line : Line) → n < length xs → index ≡ first_field + n
+    → AllStores cell first_field (take n xs) lines → Stores cell index (get_or xs n 0) line
+    → AllStores cell first_field (take (n + 1) xs) (lines ++ line ∷ [])
 stores_more cell n index xs lines line less is all one =
-    subst (λ ys. AllStores cell 2 ys (lines ++ line ∷ [])) (sym (take_more xs n 0 less))
+    subst (λ ys. AllStores cell first_field ys (lines ++ line ∷ [])) (sym (take_more xs n 0 less))
     (more_stores cell 2 (get_or xs n 0) (take n xs) lines line all
     (subst (λ i. Stores cell i (get_or xs n 0) line) (is ∙ ap (λ m. 2 + m) (sym (length_taken xs n less))) one))
 
 more_walk : (temporary value field : ℕ) (way : List ℕ) (lines : List Line) (line : Line) → Walks temporary value way lines
-    → Loads (walked temporary value way) (2 + field) temporary line
+    → Loads (walked temporary value way) (first_field + field) temporary line
     → Walks temporary value (way ++ field ∷ []) (lines ++ line ∷ [])
 more_walk temporary value field [] lines line walks one = (line, [], one, refl, ap (λ ls. ls ++ line ∷ []) walks)
 more_walk temporary value field (first ∷ way) lines line walks one = (
@@ -171,7 +171,7 @@ more_walk temporary value field (first ∷ way) lines line walks one = (
   walks.1 ++ line ∷ [],
   walks.2,
   more_walk temporary temporary field way walks.1 line walks.3
-      (subst (λ cell. Loads cell (2 + field) temporary line) (sym (walked_again temporary way)) one),
+      (subst (λ cell. Loads cell (first_field + field) temporary line) (sym (walked_again temporary way)) one),
   ap (λ ls. ls ++ line ∷ []) walks.4,
 )
   where
@@ -205,7 +205,7 @@ walk_more {n} {index} {cell} {line} {a} {b} {c} temporary value xs less is from 
 module _ {holds : ℕ → Bool} {x : ℕ} {fields used : List ℕ} {token : ℕ} {into : Option ℕ} where
   pub opening_written : {shared behind : ℕ} {loads : List Line} {a b c d e f g h i j k l m : Lowering} → TookLabel shared a b
       → TookLabel behind b c
-      → AllLoads x 2 fields loads → WroteLines (TestsCount c.base shared x) c d → Wrote loads d e
+      → AllLoads x first_field fields loads → WroteLines (TestsCount c.base shared x) c d → Wrote loads d e
       → Wrote (drops_lines e.base holds (filter (λ y. not (is_among used y)) fields)) e f → Wrote (token_ends into x token behind
       (behind + 1)) f g
       → Wrote (acts (Label shared) [] ∷ []) g h → Wrote (sets 0 token ∷ []) h i → Wrote loads i j → WroteLines (LowersCount j.base
@@ -342,7 +342,7 @@ no_word_written a cell i word {taken} is =
 
 -- some words of a construction
 pub some_words_written : (x header : ℕ) (arguments : List ℕ) (head count : Bool) (takes : ℕ → Bool) {a b c d : Lowering}
-    (fields : List Line) → SomeStores takes x 2 0 arguments fields → WroteLines (SetIf head a.base x 1 header) a b
+    (fields : List Line) → SomeStores takes x first_field 0 arguments fields → WroteLines (SetIf head a.base x 1 header) a b
     → Wrote fields b c → WroteLines (SetIf count c.base x 0 1) c d
     → WroteLines (SomeWords head count takes a.base x header arguments) a d
 some_words_written x header arguments head count takes {a} {b} {c} {d} fields stores first middle last = record {

@@ -10,6 +10,7 @@ use Rattle.rv_isa.specs.declared.immediate.Immediate.{Immediate}
 use Rattle.rv_isa.specs.declared.routine.Routine.TheVariants.{Take, Drop}
 use Rattle.rv_isa.specs.AsmCode.{Line}
 use Rattle.rv_lower.specs.Lines.{computes, sets, copies_to, acts}
+use Rattle.rv_cells.specs.Layout.{first_field}
 
 -- ---- words of cells
 
@@ -75,7 +76,7 @@ drops_lines base holds (x ∷ xs) = drop_lines base holds x ++ drops_lines base 
 -- A construction: variable x takes a cell, and its header, its fields and the count 1 are stored.
 abbrev pub ConstructLines : ℕ → ℕ → ℕ → List ℕ → List Line → Type 0
 ConstructLines base x header arguments lines =
-    (head : Line) × (fields : List Line) × (count : Line) × Stores x 1 base head × AllStores x 2 arguments fields
+    (head : Line) × (fields : List Line) × (count : Line) × Stores x 1 base head × AllStores x first_field arguments fields
     × Stores x 0 base count
     × (lines ≡ record { action = Calls Take; args = []; into = Some x } ∷ sets header base ∷ head ∷
     (fields ++ sets 1 base ∷ count ∷ []))
@@ -94,7 +95,7 @@ unhold_lines (token ∷ tokens) = acts Unhold (token ∷ []) ∷ unhold_lines to
 abbrev pub SomeWords : Bool → Bool → (ℕ → Bool) → ℕ → ℕ → ℕ → List ℕ → List Line → Type 0
 SomeWords head count takes base x header arguments lines =
     (first : List Line) × (fields : List Line) × (last : List Line) × SetIf head base x 1 header first
-    × SomeStores takes x 2 0 arguments fields × SetIf count base x 0 1 last × (lines ≡ first ++ (fields ++ last))
+    × SomeStores takes x first_field 0 arguments fields × SetIf count base x 0 1 last × (lines ≡ first ++ (fields ++ last))
 
 -- A construction in the cell of a token: variable x has the token's word. Where that is 0 a cell is taken, while the other tokens
 -- are held, so that they are tried in their order, and the words are stored that the token's cell has already: the fields at the
@@ -109,7 +110,7 @@ FillLines base x token others filled header arguments kept head count lines =
 
 -- a reading: the fields are loaded
 abbrev pub ReadLines : ℕ → List ℕ → List Line → Type 0
-ReadLines x fields lines = AllLoads x 2 fields lines
+ReadLines x fields lines = AllLoads x first_field fields lines
 
 -- An opening. Behind the test of the count the fields are loaded on each way. Where the count is 1 the fields that are not in use
 -- are dropped, and the lines `ends` are for the cell, which lead away. Else, from label `shared` on, the lines `begins` are first,
@@ -117,7 +118,8 @@ ReadLines x fields lines = AllLoads x 2 fields lines
 abbrev pub CountLines : ℕ → (ℕ → Bool) → ℕ → ℕ → ℕ → List ℕ → List ℕ → List Line → List Line → List Line → Type 0
 CountLines base holds shared behind x fields used ends begins lines =
     (test : Line) × (loads : List Line) × (count : Line) × (less : Immediate) × (store : Line)
-    × Loads x 0 base test × AllLoads x 2 fields loads × Loads x 0 base count × (less.word ≡ 2 ^ 32 - 1) × Stores x 0 base store
+    × Loads x 0 base test × AllLoads x first_field fields loads × Loads x 0 base count × (less.word ≡ 2 ^ 32 - 1)
+    × Stores x 0 base store
     × (lines ≡ test ∷ sets 1 (base + 1) ∷ acts (Branch NotEqual shared) (base ∷ (base + 1) ∷ []) ∷
     ((loads ++ (drops_lines base holds (filter (λ y. not (is_among used y)) fields) ++ ends))
     ++ ((acts (Label shared) [] ∷ (begins ++ (loads ++ (count ∷ computes (Op.Immediate Addi less) (base ∷ []) base ∷ store
@@ -141,7 +143,7 @@ TokenUniqueLines base holds shared behind filled x fields used token into lines 
 abbrev pub Walks : ℕ → ℕ → List ℕ → List Line → Type 0
 Walks temporary value [] lines = lines ≡ []
 Walks temporary value (field ∷ way) lines =
-    (first : Line) × (more : List Line) × Loads value (2 + field) temporary first × Walks temporary temporary way more
+    (first : Line) × (more : List Line) × Loads value (first_field + field) temporary first × Walks temporary temporary way more
     × (lines ≡ first ∷ more)
 
 -- which one then has the value at the position, and the first temporary that is free

@@ -8,7 +8,7 @@ use Rattle.cell_heap.specs.Counts.{total}
 use Rattle.cell_heap.specs.Pool.{Pool, end_of, IsCell, places}
 use Rattle.cell_heap.specs.Blocks.{Block, no_block, unused, own, kept, Cells}
 use Rattle.kk_counted.specs.Heaps.{Held, Heap, held_at, count_at}
-use Rattle.rv_cells.specs.Layout.{Layout, header_of, words_in, FitFields}
+use Rattle.rv_cells.specs.Layout.{Layout, header_of, words_in, FitFields, first_field}
 
 -- these words are known one behind the other, from one on
 abbrev pub AreFrom : (ℕ → Option ℕ) → ℕ → List ℕ → Type 0
@@ -19,7 +19,7 @@ AreFrom words i (w ∷ ws) = (words i ≡ Some w) × AreFrom words (suc i) ws
 pub record IsBlockOf (layout : Layout) (address : ℕ → ℕ) (held : Held) (words : ℕ → Option ℕ) : Type 0 where
   pub count : words 0 ≡ Some held.count
   pub header : words 1 ≡ Some (header_of layout held.cell.made_by)
-  pub fields : AreFrom words 2 (words_in layout address held.cell.fields)
+  pub fields : AreFrom words first_field (words_in layout address held.cell.fields)
   pub fits : FitFields (layout.fields held.cell.made_by) held.cell.fields
 
 -- What stands at an address: nothing that is used; the counted cell of a name; a cell that was taken, of which words are known,

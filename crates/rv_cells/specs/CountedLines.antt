@@ -1,5 +1,5 @@
 -- The lines of the tests of a case, and of forms on variables that name no token.
-use Rattle.std.specs.Prelude.{◌≡◌, ℕ, zero, suc, ◌+◌, ◌*◌, Bool, true, not, List, [], ◌∷◌, ◌++◌, length, filter, drop, slice_get, Option, Some, None, option_map, option_to_list, nat_eq}
+use Rattle.std.specs.Prelude.{◌≡◌, ℕ, zero, suc, ◌+◌, ◌*◌, Bool, true, not, List, [], ◌∷◌, ◌++◌, length, filter, drop, slice_get, Option, Some, None, option_map, option_to_list, nat_eq, ◌-◌}
 use Rattle.kk_syntax.specs.declared.program.Form.{Form}
 use Rattle.kk_syntax.specs.declared.program.Form.TheVariants.{Construct}
 use Rattle.kk_core.specs.Decisions.{NodeTree, chooses, tests}
@@ -15,7 +15,7 @@ use Rattle.rv_isa.specs.declared.immediate.Immediate.{Immediate}
 use Rattle.rv_isa.specs.AsmCode.{Line}
 use Rattle.rv_lower.specs.Lines.{computes, sets, acts, Texts, FormLines}
 use Rattle.rv_cells.specs.declared.standing.Standing.{Standing}
-use Rattle.rv_cells.specs.Layout.{Layout, header_of}
+use Rattle.rv_cells.specs.Layout.{Layout, header_of, tag_values}
 use Rattle.rv_cells.specs.CellLines.{Loads, ConstructLines, Walks, walked, spare, equal_lines, jump_lines, either_lines}
 
 -- ---- tests
@@ -89,7 +89,7 @@ DecideLines layout to next value temporary plain [] otherwise other lines =
     ChoiceLines (answer_word layout) to next value temporary plain other lines
 DecideLines layout to next value temporary plain (edge ∷ edges) otherwise other lines =
     (odd : List Line) × (header : Line) × (byte : Immediate) × (choice : List Line) × OddLines value temporary to otherwise odd
-    × Loads value 1 temporary header × (byte.word ≡ 255)
+    × Loads value 1 temporary header × (byte.word ≡ tag_values - 1)
     × ChoiceLines (answer_tag layout) to next temporary (temporary + 1) (edge ∷ edges) other choice
     × (lines ≡ number_tests (answer_word layout) to value temporary plain
     ++ (odd ++ (header ∷ computes (Op.Immediate Andi byte) (temporary ∷ []) temporary ∷ choice)))

@@ -11,6 +11,7 @@ use Rattle.kk_core.specs.declared.decisions.Answer.{Answer}
 use Rattle.kk_core.specs.declared.decisions.Answer.TheVariants.{Number as OfNumber, Constructor}
 use Rattle.kk_core.specs.declared.decisions.Edge.{Edge}
 use Rattle.kk_core.specs.Kinds.{IsTruth}
+use Rattle.kk_core.specs.Sizes.{most_parameters}
 use Rattle.kk_counted.specs.CountedCodes.{Counted, case, compute}
 use Rattle.kk_counted.specs.CountedStates.{CountedJoin, CountedControl, running, CountedConfiguration}
 use Rattle.kk_counted.specs.CountedMachine.{NotStuck}
@@ -82,11 +83,15 @@ FitsControl layout heap (running (compute x form arguments rest) environment joi
     FitsForm form (map (value_of environment) arguments)
 FitsControl layout heap _ = Unit {0}
 
+-- one step makes no more references of a cell: a form takes no more values
+abbrev pub step_references : ℕ
+step_references = most_parameters
+
 -- Where it goes on, a count and the references that one step makes are less than 2^32.
 pub record IsFit (layout : Layout) (c : CountedConfiguration) : Type 0 where
   pub going : NotStuck c.control
   pub owned : List Value
   pub sound : IsSound owned c.heap
   pub counts : (code : Counted) (environment : Environment) (joins : List CountedJoin)
-      → c.control ≡ running code environment joins → (name : ℕ) → 8 + count_at c.heap name < 2 ^ 32
+      → c.control ≡ running code environment joins → (name : ℕ) → step_references + count_at c.heap name < 2 ^ 32
   pub fits : FitsControl layout c.heap c.control

@@ -17,9 +17,17 @@ layout_of constructors = record {
   fields = λ c. slice_index_or (map (λ one. one.fields.items) constructors) c [];
 }
 
+-- the word of a cell at which its fields begin, behind its count and its header
+abbrev pub first_field : ℕ
+first_field = 2
+
+-- how many tags a byte of the header tells apart
+abbrev pub tag_values : ℕ
+tag_values = 256
+
 -- a tag has a byte of the header, and six fields a cell
 pub record IsNarrow (layout : Layout) : Type 0 where
-  pub tags : (c : ℕ) → layout.tag c < 256
+  pub tags : (c : ℕ) → layout.tag c < tag_values
   pub few : (c : ℕ) → length (layout.fields c) ≤ greatest_of Fields
 
 -- the fields that can hold cells, as bits: bit 0 for the first one
@@ -28,7 +36,7 @@ mask_of [] = 0
 mask_of (holds ∷ more) = bit_of holds + 2 * mask_of more
 
 abbrev pub header_of : Layout → ℕ → ℕ
-header_of layout c = layout.tag c + 256 * mask_of (layout.fields c)
+header_of layout c = layout.tag c + tag_values * mask_of (layout.fields c)
 
 -- The word of a value, by the addresses of cells. A constructor without fields is odd, and so is `()`: so neither is an address.
 abbrev pub word_in : Layout → (ℕ → ℕ) → Value → ℕ

@@ -19,7 +19,7 @@ use Rattle.rv_cells.specs.declared.decide.Targets.{Targets}
 use Rattle.rv_cells.specs.declared.decide.CaseWays.{CaseWays}
 use Rattle.rv_cells.specs.declared.decide.Shown.{Shown}
 use Rattle.rv_cells.specs.declared.decide.Shown.TheVariants.{Word, Tag}
-use Rattle.rv_cells.specs.Layout.{Layout, layout_of}
+use Rattle.rv_cells.specs.Layout.{Layout, layout_of, tag_values}
 use Rattle.rv_cells.specs.CellLines.{Loads, Stores, TokenUniqueLines}
 use Rattle.rv_cells.specs.CountedLines.{Setting, ComputeLines, Ways, ways_of, answer_word, answer_tag}
 
@@ -86,7 +86,7 @@ LowersCount base x lines =
 -- the tag of a value's cell is loaded
 abbrev pub LoadsTag : ℕ → ℕ → List Line → Type 0
 LoadsTag value tag lines =
-    (header : Line) × (byte : Immediate) × Loads value 1 tag header × (byte.word ≡ 255)
+    (header : Line) × (byte : Immediate) × Loads value 1 tag header × (byte.word ≡ tag_values - 1)
     × (lines ≡ header ∷ computes (Op.Immediate Andi byte) (tag ∷ []) tag ∷ [])
 
 -- ---- what was written

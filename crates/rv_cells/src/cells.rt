@@ -7,6 +7,7 @@ ghost use Rattle.rv_cells.specs.CellLines.{Loads, Stores, AllLoads, AllStores, d
 ghost use Rattle.rv_cells.specs.CellLines.{SomeStores, SetIf, SomeWords, is_kept, ConstructLines, ReadLines, token_ends};
 ghost use Rattle.rv_cells.specs.TokenedWritten.{variables_known, StoreLines, PushedStore, is_left};
 ghost use Rattle.rv_cells.specs.Written.{holds_known, TestsCount, LowersCount, WroteOpening};
+ghost use Rattle.rv_cells.specs.Layout.{first_field};
 
 use crate::standing::Known;
 use kk_base::NoMemory;
@@ -14,12 +15,14 @@ use rv_isa::{Action, Condition, Immediate, ImmediateOperation, Operation, Routin
 use rv_lower::{Lowering, Reads, Short, act, copy, next, set, unary, write_label};
 use std::alloc::Global;
 
-/// The word of a cell that has its count, that which has its header, and the first one of its fields.
+/// The word of a cell that has its count.
 const COUNT: u32 = 0;
 
-const HEADER: u32 = 1;
+/// The word of a cell that has its header.
+pub const HEADER: u32 = 1;
 
-const FIELDS: u32 = 2;
+/// The word of a cell that has its first field.
+pub const FIELDS: u32 = 2;
 
 /// The offset of a word of a cell. An overflow of the offsets that a line can name is answered as out of memory.
 fn offset(index: u32) -> Result<Immediate, NoMemory>
@@ -55,7 +58,7 @@ fn store(cell: u32, index: u32, from: u32) -> Result<Short, NoMemory>
 
 /// The lines that load the fields of a cell.
 fn loads(alloc: Global, cell: u32, fields: &[u32]) -> Result<Vec<Short>, NoMemory>
-    ensures { IfOk result (λ lines. AllLoads cell 2 fields.now (map short_line lines.items)) }
+    ensures { IfOk result (λ lines. AllLoads cell first_field fields.now (map short_line lines.items)) }
 {
     let mut lines = Vec::new(alloc);
     let mut index = FIELDS;
@@ -69,7 +72,7 @@ fn loads(alloc: Global, cell: u32, fields: &[u32]) -> Result<Vec<Short>, NoMemor
 
 /// The lines that store the fields of a cell.
 fn stores(alloc: Global, cell: u32, fields: &[u32]) -> Result<Vec<Short>, NoMemory>
-    ensures { IfOk result (λ lines. AllStores cell 2 fields.now (map short_line lines.items)) }
+    ensures { IfOk result (λ lines. AllStores cell first_field fields.now (map short_line lines.items)) }
 {
     let mut lines = Vec::new(alloc);
     let mut index = FIELDS;
@@ -153,7 +156,7 @@ fn some_stores(
     kept: &[u32],
     left: bool,
 ) -> Result<Vec<Short>, NoMemory>
-    ensures { IfOk result (λ lines. SomeStores (is_kept left kept.now) cell 2 0 fields.now (map short_line lines.items)) }
+    ensures { IfOk result (λ lines. SomeStores (is_kept left kept.now) cell first_field 0 fields.now (map short_line lines.items)) }
 {
     let mut lines = Vec::new(alloc);
     let mut index = FIELDS;

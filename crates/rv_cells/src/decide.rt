@@ -8,7 +8,7 @@ ghost use Rattle.rv_cells.specs.CountedLines.{first_label, is_plain, answer_word
 ghost use Rattle.rv_cells.specs.CountedLines.{OddLines, DecideLines, IsWithoutLast, AreTried, TestLines, first_lines, NodeLines, NodesLines};
 ghost use Rattle.rv_cells.specs.Written.{layout_known, ways_known, number_shown, LoadsTag};
 
-use crate::cells::load;
+use crate::cells::{FIELDS, HEADER, load};
 use crate::standing::Known;
 use kk_base::NoMemory;
 use kk_core::{Answer, Edge, Node};
@@ -197,7 +197,7 @@ fn write_walk(
 {
     let mut there = value;
     for field in at {
-        let line = load(there, sum(2, *field)?, temporary)?;
+        let line = load(there, sum(FIELDS, *field)?, temporary)?;
         lowering.write(&[line])?;
         there = temporary;
     }
@@ -360,7 +360,7 @@ fn write_odd(
 fn write_tag(lowering: &mut Lowering, value: u32, tag: u32) -> Result<(), NoMemory>
     ensures { OnOk result (WroteLines (LoadsTag value tag) lowering.old lowering.new) }
 {
-    let header = load(value, 1, tag)?;
+    let header = load(value, HEADER, tag)?;
     let byte = Operation::Immediate(ImmediateOperation::Andi, Immediate::new(255));
     lowering.write(&[header, unary(byte, tag, tag)])
 }

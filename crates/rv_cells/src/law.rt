@@ -1,5 +1,5 @@
-ghost use Rattle.std.specs.Prelude.{◌≡◌, ◌<◌, ◌≤◌, ℕ, suc, ◌+◌, ◌%◌, ◌^◌, ◌*◌, Bool, List, [], ◌∷◌, length};
-ghost use Rattle.std.specs.Prelude.{All, Option, Some, None, true, slice_get};
+ghost use Rattle.std.specs.Prelude.{◌≡◌, ◌<◌, ◌≤◌, ℕ, suc, ◌+◌, ◌%◌, ◌^◌, Bool, List, [], ◌∷◌, length};
+ghost use Rattle.std.specs.Prelude.{All, Option, Some, None, true};
 ghost use Rattle.kk_base.specs.Sizes.{greatest_cells, greatest_depth};
 ghost use Rattle.kk_base.specs.Limits.{greatest_of};
 ghost use Rattle.kk_base.specs.declared.limit.LimitKind.TheVariants.{Fields};
@@ -7,15 +7,7 @@ ghost use Rattle.cell_heap.specs.Pool.{Pool};
 ghost use Rattle.cell_heap.specs.Blocks.{Cells, own, with_block, with_word, request, unused_cells};
 ghost use Rattle.kk_source.specs.State.{Value, Cell};
 ghost use Rattle.kk_source.specs.Sound.{AllWithin};
-ghost use Rattle.kk_counted.specs.BareForms.{bare_program};
-ghost use Rattle.kk_counted.specs.declared.shape.Shape.{Shape};
-ghost use Rattle.kk_counted.specs.Lowerable.{AreLowerable};
 ghost use Rattle.kk_counted.specs.CountBounds.{AllSpendAtMost};
-ghost use Rattle.kk_counted.specs.FunctionSizes.{AllHaveVariablesBelow, AllHaveSlotsBelow};
-ghost use Rattle.kk_counted.specs.TokenLengths.{tokened_functions_length, all_tokened_computes};
-ghost use Rattle.kk_counted.specs.TokenLowerable.{AreTokensLowerable};
-ghost use Rattle.kk_counted.specs.TokenedWords.{all_tokened_words, all_tokened_prints};
-ghost use Rattle.kk_counted.specs.TokenSpending.{AreTokensSpent};
 ghost use Rattle.kk_counted.specs.CountedStates.{CountedSetting, CountedState};
 ghost use Rattle.kk_counted.specs.Int32.{AllHaveInt32};
 ghost use Rattle.kk_counted.specs.Kinds.{HasKindsAlways};
@@ -24,29 +16,18 @@ ghost use Rattle.kk_counted.specs.Spending.{IsSpent};
 ghost use Rattle.kk_syntax.specs.PositionsOf.{PositionTable};
 ghost use Rattle.kk_counted.specs.Marks.{CellMarks, field_marks, AreMarked};
 ghost use Rattle.kk_counted.specs.Heaps.{Heap, count_at, set_count, fields_held, busy, dup_value, drop_value};
+ghost use Rattle.rv_cells.specs.Laws.{RunTheSame, ComeToTheirLines, AreWellLowered, AreShortLowered, TakeFewWords};
+ghost use Rattle.rv_cells.specs.Laws.{HaveFewValues};
 ghost use Rattle.rv_cells.specs.Layout.{Layout, IsNarrow, FitsField};
 ghost use Rattle.rv_cells.specs.CountedCells.{IsBlockOf, Owner, nobody, cell_of, in_hand, kept_aside, Follows, with_owner, assign, set_aside};
-ghost use Rattle.rv_isa.specs.AsmCode.{Lines};
-ghost use Rattle.kk_counted.specs.CountedCosts.{roomy_cost};
-ghost use Rattle.kk_counted.specs.TokenCosts.{HasRoom};
 ghost use Rattle.rv_cells.specs.Fitting.{AreTagged, count_of_fields, IsFit};
-ghost use Rattle.rv_cells.specs.TokenedFunctions.{most_values_of};
-ghost use Rattle.rv_cells.specs.TokenedLowered.{IsTokenedForm};
-ghost use Rattle.rv_cells.specs.FormLines.{HaveOwnLines, ComesToItsLines, FollowsEachState};
-ghost use Rattle.rv_cells.specs.Meaning.{setting_on};
-ghost use Rattle.rv_cells.specs.TokenedMeaning.{IsTokenedLowered, TokenedRunsTheSame};
 ghost use Rattle.rv_cells.specs.Steps.{Served, ServedByHeld, PutAside, TakenBack, Dupped, Dropped, IsPaid, Released};
-ghost use Rattle.kk_counted.specs.TokenedCodes.{TokenedFunction, TokenedProgram};
 ghost use Rattle.kk_counted.specs.CountLimits.{greatest_spent};
-ghost use Rattle.rv_cells.specs.Tables.{table_of, layout_in};
-ghost use Rattle.rv_lower.specs.Written.{most_print};
-ghost use Rattle.rv_isa.specs.Costs.{functions_length};
-ghost use Rattle.rv_isa.specs.ValueBounds.{HaveValuesBelow};
-ghost use Rattle.cell_runtime.specs.Operations.{all_bytes};
+ghost use Rattle.rv_isa.specs.Numbers.{cell_size};
 
 /// At the start the cells of a pool hold the empty heap. It is a law, and does nothing.
 pub fn unused_cells_hold_no_heap()
-    ensures { (pool : Pool) (layout : Layout) (address : ℕ → ℕ) → pool.first % 32 ≡ 0
+    ensures { (pool : Pool) (layout : Layout) (address : ℕ → ℕ) → pool.first % cell_size ≡ 0
         → Follows pool layout address (λ at. nobody) [] (unused_cells pool) }
 {}
 
@@ -54,22 +35,23 @@ pub fn unused_cells_hold_no_heap()
 /// token that it names, and where it names none the heap is full. It is a law, and does nothing.
 pub fn requests_find_free_cells()
     ensures served { (pool : Pool) (layout : Layout) (address : ℕ → ℕ) (owners : ℕ → Owner) (heap : Heap) (cells : Cells)
-        → pool.first % 32 ≡ 0 → Follows pool layout address owners heap cells
+        → pool.first % cell_size ≡ 0 → Follows pool layout address owners heap cells
         → (top : Option ℕ) → busy heap + set_aside pool owners < pool.cells
         → Served pool layout address owners heap cells top }
     ensures from_held { (pool : Pool) (layout : Layout) (address : ℕ → ℕ) (owners : ℕ → Owner) (heap : Heap) (cells : Cells)
-        → pool.first % 32 ≡ 0 → Follows pool layout address owners heap cells
+        → pool.first % cell_size ≡ 0 → Follows pool layout address owners heap cells
         → (at : ℕ) (words : ℕ → Option ℕ) → owners at ≡ kept_aside words → pool.cells ≤ busy heap + set_aside pool owners
         → ServedByHeld pool layout address owners heap cells at }
     ensures full { (pool : Pool) (layout : Layout) (address : ℕ → ℕ) (owners : ℕ → Owner) (heap : Heap) (cells : Cells)
-        → pool.first % 32 ≡ 0 → Follows pool layout address owners heap cells
+        → pool.first % cell_size ≡ 0 → Follows pool layout address owners heap cells
         → pool.cells ≤ busy heap + set_aside pool owners → request pool None cells ≡ None }
 {}
 
 /// The cells that are counted and those that are set aside are together no more than there are. It is a law, and does nothing.
 pub fn cells_are_counted_or_set_aside()
     ensures { (pool : Pool) (layout : Layout) (address : ℕ → ℕ) (owners : ℕ → Owner) (heap : Heap) (cells : Cells)
-        → pool.first % 32 ≡ 0 → Follows pool layout address owners heap cells → busy heap + set_aside pool owners ≤ pool.cells }
+        → pool.first % cell_size ≡ 0 → Follows pool layout address owners heap cells
+        → busy heap + set_aside pool owners ≤ pool.cells }
 {}
 
 /// A cell in hand is put on the chain of held tokens, and taken back. It is a law, and does nothing.
@@ -115,7 +97,7 @@ pub fn references_are_duplicated()
 /// law, and does nothing.
 pub fn references_are_dropped()
     ensures { (pool : Pool) (layout : Layout) (address : ℕ → ℕ) (owners : ℕ → Owner) (heap next : Heap) (cells : Cells) (v : Value)
-        → pool.first % 32 ≡ 0 → IsNarrow layout → Follows pool layout address owners heap cells
+        → pool.first % cell_size ≡ 0 → IsNarrow layout → Follows pool layout address owners heap cells
         → FitsField true v → drop_value v heap ≡ Some next
         → (dropped : Dropped pool layout address owners heap next cells v) × IsPaid heap next dropped.work }
 {}
@@ -148,44 +130,26 @@ pub fn cells_in_hand_are_released()
 /// one whose assembler code is well formed: where its shape has tags of a byte, six fields a constructor at most, and `False` and
 /// `True` first, and `main`, which has no parameters, is there. It is a law, and does nothing.
 pub fn lowered_tokened_programs_are_well_formed()
-    ensures { (shape : Shape) (code : TokenedProgram) (texts : List (List ℕ)) (each : List Lines)
-        → AreLowerable (table_of shape) (bare_program code).functions → AreTokensLowerable code.functions → AreTokensSpent code
-        → IsTokenedForm shape code.texts code.functions each texts
-        → IsNarrow (layout_in shape) → (layout_in shape).tag 0 ≡ 0 → (layout_in shape).tag 1 ≡ 1
-        → (main : TokenedFunction) → slice_get code.functions code.main ≡ Some main → main.parameters ≡ 0
-        → IsTokenedLowered (layout_in shape) (table_of shape) code texts each }
+    ensures { AreWellLowered }
 {}
 
 /// The assembler code of a program with tokens whose bare form can be lowered, which spends its tokens, and is lowered, is no longer
 /// than its code with tokens tells, and has at most the bytes of one print for each form on values: where constructors have at most six
 /// fields. It is a law, and does nothing.
 pub fn lowered_tokened_programs_are_short()
-    ensures { (shape : Shape) (code : TokenedProgram) (texts : List (List ℕ)) (each : List Lines)
-        → AreLowerable (table_of shape) (bare_program code).functions → AreTokensLowerable code.functions → AreTokensSpent code
-        → IsTokenedForm shape code.texts code.functions each texts → IsNarrow (layout_in shape)
-        → (functions_length each ≤ tokened_functions_length code.functions)
-        × (length (all_bytes texts) ≤ most_print * all_tokened_computes code.functions) }
+    ensures { AreShortLowered }
 {}
 
 /// The assembler code of such a program takes no more words than its code with tokens tells, and eight for each function, where each
 /// string that it prints has 64 of them; and it has at most the bytes of one print for each string. It is a law, and does nothing.
 pub fn lowered_tokened_programs_take_few_words()
-    ensures { (shape : Shape) (code : TokenedProgram) (texts : List (List ℕ)) (each : List Lines)
-        → AreLowerable (table_of shape) (bare_program code).functions → AreTokensLowerable code.functions → AreTokensSpent code
-        → IsTokenedForm shape code.texts code.functions each texts → IsNarrow (layout_in shape)
-        → (functions_length each + 64 * all_tokened_prints code.functions
-        ≤ 8 * length code.functions + all_tokened_words code.functions)
-        × (length (all_bytes texts) ≤ most_print * all_tokened_prints code.functions) }
+    ensures { TakeFewWords }
 {}
 
 /// The assembler code of a program with tokens whose bare form can be lowered, which spends its tokens, and is lowered, names no more
 /// values in a function than the program has variables and slots, and eight temporaries. It is a law, and does nothing.
 pub fn lowered_tokened_programs_have_few_values()
-    ensures { (shape : Shape) (code : TokenedProgram) (texts : List (List ℕ)) (each : List Lines)
-        → AreLowerable (table_of shape) (bare_program code).functions → AreTokensSpent code
-        → IsTokenedForm shape code.texts code.functions each texts → (variables slots : ℕ)
-        → AllHaveVariablesBelow variables (bare_program code).functions → AllHaveSlotsBelow slots code.functions
-        → HaveValuesBelow (most_values_of variables slots) each }
+    ensures { HaveFewValues }
 {}
 
 /// A program with tokens whose functions are all lowered runs the same as its assembler code, where its bare form has room for the
@@ -193,12 +157,7 @@ pub fn lowered_tokened_programs_have_few_values()
 /// bare form weigh with this room, which is there once more at the start, and all cells free where the program ends by itself with
 /// an empty heap. It is a law, and does nothing.
 pub fn lowered_tokened_programs_run_the_same()
-    ensures { (layout : Layout) (marks : CellMarks) (code : TokenedProgram) (constants : List (List ℕ)) (functions : List Lines)
-        → (lowered : IsTokenedLowered layout marks code constants functions) → (room : ℕ) → HasRoom room code
-        → (pool : Pool) (depth first : ℕ) (input : List ℕ) → pool.first % 32 ≡ 0 → 0 < pool.first
-        → All (λ byte. byte < 256) input
-        → ((n : ℕ) → IsFit layout (counted_after (roomy_cost room) (setting_on (bare_program code) pool depth) input n))
-        → TokenedRunsTheSame code room constants functions lowered.main_lines pool depth first input }
+    ensures { RunTheSame }
 {}
 
 /// Each call, print and construction with fields of a program with tokens, whose functions are all lowered, has lines of its own in
@@ -207,15 +166,7 @@ pub fn lowered_tokened_programs_run_the_same()
 /// each state in which the counted machine is at a form. The first function must be `main`, and the bare form one that can be
 /// lowered. It is a law, and does nothing.
 pub fn lowered_tokened_programs_come_to_their_lines()
-    ensures { (layout : Layout) (marks : CellMarks) (code : TokenedProgram) (constants : List (List ℕ)) (functions : List Lines)
-        → (lowered : IsTokenedLowered layout marks code constants functions)
-        → AreLowerable marks (bare_program code).functions → code.main ≡ 0
-        → (own : HaveOwnLines (bare_program code) functions) × ((room : ℕ) → HasRoom room code
-        → (pool : Pool) (depth first : ℕ) (input : List ℕ) → pool.first % 32 ≡ 0 → 0 < pool.first
-        → All (λ byte. byte < 256) input
-        → ((n : ℕ) → IsFit layout (counted_after (roomy_cost room) (setting_on (bare_program code) pool depth) input n))
-        → ComesToItsLines layout (bare_program code) room constants functions lowered.main_lines pool depth first input own
-        × FollowsEachState layout (bare_program code) room constants functions lowered.main_lines pool depth first input) }
+    ensures { ComeToTheirLines }
 {}
 
 /// Code that spends its references and is marked by types is fit in each state of its run, within the limits of cells, call frames

@@ -102,13 +102,7 @@ pub fn mark_of_form(shape: &Shape, form: Form, arguments: &[u32]) -> bool
     match form {
         Form::Construct(constructor) => mark_of_made(shape, constructor, arguments),
         Form::Call(function) => mark_of_result(shape, function),
-        Form::Number(_)
-        | Form::Unit
-        | Form::ReadByte
-        | Form::PrintText(_, _)
-        | Form::Unary(_)
-        | Form::Binary(_)
-        | Form::Print(_) => false,
+        _ => false,
     }
 }
 

@@ -15,6 +15,9 @@ use kk_counted::{TokenedBlock, TokenedLast, TokenedStep};
 use kk_syntax::{Form, StringLiteral};
 use std::alloc::Global;
 
+/// How many tags the byte of a header tells apart.
+const TAG_VALUES: u32 = 256;
+
 /// What is known of the first words of each cell that is a token of a function and is not held.
 #[derive(Clone, Copy)]
 pub enum Standing {
@@ -271,7 +274,7 @@ impl Known<'_> {
         ensures { IfOk result (λ word. word ≡ header_of (layout_known self.now) constructor) }
     {
         let mask = mask(self.fields(constructor))?;
-        let Some(place) = mask.checked_mul(256) else {
+        let Some(place) = mask.checked_mul(TAG_VALUES) else {
             return Err(NoMemory);
         };
         match self.tag(constructor).checked_add(place) {

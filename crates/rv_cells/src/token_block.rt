@@ -162,11 +162,8 @@ fn write_opened(
             used,
             slot,
             ..
-        } => {
-            let into = filled_by(*slot, behind);
-            write_opening(lowering, known, *variable, fields, used, *slot, into)
         }
-        TokenedStep::IfUnique {
+        | TokenedStep::IfUnique {
             variable,
             fields,
             used,

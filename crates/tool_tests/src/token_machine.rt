@@ -114,6 +114,11 @@ impl<'a> TokenMachine<'a> {
     /// A step of a block.
     fn take(&mut self, step: &'a TokenedStep) -> Result<Option<End>, Fail> {
         match step {
+            TokenedStep::Inside { variable, block } => {
+                self.wait(*variable, None)?;
+                self.code = code_of(block);
+                Ok(None)
+            }
             TokenedStep::Let {
                 variable,
                 form,
@@ -123,17 +128,12 @@ impl<'a> TokenMachine<'a> {
                 let values = self.values_of(arguments)?;
                 self.compute(*variable, *form, values, others)
             }
-            TokenedStep::Inside { variable, block } => {
-                self.wait(*variable, None)?;
-                self.code = code_of(block);
-                Ok(None)
-            }
             TokenedStep::Fill {
+                first,
+                arguments,
                 variable,
                 slot,
                 constructor,
-                first,
-                arguments,
                 kept,
                 others,
             } => {
