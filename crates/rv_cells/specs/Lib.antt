@@ -17,3 +17,4 @@ pub mod FormLines
 pub mod TokenedMarking
 pub mod TokenedWritten
 pub mod TokenedFunctions
+pub mod TokenMemory
