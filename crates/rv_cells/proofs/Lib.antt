@@ -33,6 +33,7 @@ pub mod UnnamedVariables
 pub mod Comparisons
 pub mod TokenLineCosts
 pub mod TokenRelation
+pub mod ChainedTokens
 pub mod TestEdges
 pub mod NodeLines
 pub mod Programs
@@ -95,6 +96,7 @@ pub mod FormRoots
 pub mod TokenMeaning
 pub mod CopyPassage
 pub mod LineArrivals
+pub mod TokenArrivals
 pub mod TokenMarks
 pub mod Standings
 pub mod TokenCodeGrowth

@@ -44,6 +44,7 @@ use Rattle.rv_cells.specs.Layout.{FitsField}
 use Rattle.rv_cells.specs.CountedCells.{Follows}
 use Rattle.rv_cells.specs.TokenedLines.{HasSlots, Keeps, CodeLines}
 use Rattle.rv_cells.specs.CountedLines.{Setting}
+use Rattle.rv_cells.proofs.ChainedTokens.{at_tokens}
 use Rattle.rv_cells.proofs.CellActions.{label_runs, falls_runs, branch_runs}
 use Rattle.rv_cells.proofs.BoundVariables.{within_one}
 use Rattle.rv_cells.proofs.Comparisons.{IsDecided, decided, values_stay, drops_before, drops_marked, drops_numbered, drops_slots}
@@ -230,6 +231,7 @@ module _ (program : Lowering) where
         truth_is = is.truth_is;
         follows = is.follows;
         judged = drop_judged y rest inner frames tokens input s is.lists is.ahead.0 is.judged fit;
+        has = is.has;
         comes = is.comes;
       }))))
   behind_step (Tokened.case y decisions others) idle inner frames tokens input s fs left is idle_is fit =
@@ -643,5 +645,6 @@ module _ (program : Lowering) (x : ℕ) (operator : BinaryOperator) (a b : ℕ) 
         follows = at.follows;
         judged = subst (λ (l : Lists). IsJudged program.pool.cells l.left l.unspent l.held l.older rest inner frames s.heap tokens)
             kept.1.0 kept.1.1;
+        has = at_tokens program code inner frames tokens input s fs left at;
         comes = comes_by verdict.test verdict.opposite;
       })))))

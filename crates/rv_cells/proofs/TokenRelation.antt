@@ -43,6 +43,7 @@ use Rattle.rv_cells.specs.CountedCells.{AreFrom, Owner, in_hand, kept_aside, Fol
 use Rattle.rv_cells.specs.CountedLines.{Setting}
 use Rattle.rv_cells.specs.TokenedLines.{CodeLines, HasSlots, Keeps, IsFunctionOf, AreFunctionsOf}
 use Rattle.rv_cells.specs.Fitting.{IsFit}
+use Rattle.rv_cells.specs.TokenMemory.{held_cells, HasTokens}
 use Rattle.rv_cells.proofs.BoundVariables.{AreWithin}
 use Rattle.rv_cells.proofs.FormPlaces.{Tree, tree, no_part, own_of, tree_in, FillThere, StandsAt}
 use Rattle.rv_cells.proofs.TokenLineCosts.{forms}
@@ -401,6 +402,7 @@ module _ (program : Lowering) where
     pub truth_is : value_of s.environment x ≡ truth test
     pub follows : Follows program.pool program.layout s.address s.owners s.heap s.world.cells
     pub judged : IsJudged program.pool.cells lists.left lists.unspent lists.held lists.older code inner frames s.heap tokens
+    pub has : HasTokens program.pool program.layout s.address s.owners s.heap tokens s.world.cells (held_cells (s.frame ∷ fs))
     pub comes : (body : Tokened) → tokened_arm_at arms (if test then 0 else 1) ≡ Some body
         → IsJudged program.pool.cells lists.left lists.unspent lists.held lists.older body inner frames s.heap tokens
         → ComesTo body inner frames tokens input s fs left

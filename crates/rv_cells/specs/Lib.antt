@@ -18,3 +18,4 @@ pub mod TokenedMarking
 pub mod TokenedWritten
 pub mod TokenedFunctions
 pub mod Laws
+pub mod TokenMemory

@@ -12,6 +12,7 @@ mod mark;
 mod standing;
 mod token_block;
 mod token_cells;
+mod token_law;
 mod token_program;
 
 pub use law::{
@@ -23,4 +24,5 @@ pub use law::{
     references_are_dropped, references_are_duplicated, requests_find_free_cells,
     unique_cells_are_opened, unused_cells_hold_no_heap, words_in_hand_are_stored,
 };
+pub use token_law::lowered_tokened_programs_follow_their_tokens;
 pub use token_program::lower_tokened;
