@@ -11,6 +11,7 @@ use Rattle.cell_heap.proofs.FreeCells.{free_list-lists}
 use Rattle.cell_heap.proofs.Frames.{shown-cell, free-some}
 use Rattle.cell_heap.proofs.Sums.{occurs-cells, occurs-first, occurs-later}
 use Rattle.rv_isa.specs.FreeCells.{free_list, free_cells}
+use Rattle.rv_isa.specs.Numbers.{cell_size}
 use Rattle.rv_isa.specs.Processor.{Processor}
 use Rattle.rv_cells.specs.Meaning.{AreFree}
 use Rattle.rv_place.specs.ProcessorStates.{HasCells}
@@ -46,7 +47,7 @@ all_are_free pool cells s free_are has = record {
   number = number;
 }
   where
-    aligned : pool.first % 32 ≡ 0
+    aligned : pool.first % cell_size ≡ 0
     aligned = has.1.memory.usable.aligned
 
     place_is : (x : ℕ) → occurs x (places pool) ≢ 0 → IsCell pool x

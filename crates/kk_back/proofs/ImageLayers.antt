@@ -33,7 +33,7 @@ use Rattle.elf_image.specs.Program.{IsProgramImage, program_parts, text_of, memo
 use Rattle.elf_image.specs.declared.part.Part.{Part}
 use Rattle.cell_heap.specs.Pool.{Pool}
 use Rattle.cell_runtime.specs.Sizes.{runtime_words}
-use Rattle.cell_runtime.specs.Layouts.{below_pointer}
+use Rattle.cell_runtime.specs.Layouts.{below_pointer, bytes_before_cells}
 use Rattle.cell_runtime.proofs.AddressReach.{below_most}
 use Rattle.cell_runtime.specs.Texts.{IsText}
 use Rattle.cell_runtime.specs.Operations.{Constants, all_bytes}
@@ -123,7 +123,8 @@ placeable cells depth asm placed looped runtime made valid plain loops runtime_i
     let bytes : length (all_bytes (placed_constants looped)) ≡ length (all_bytes (asm_constants asm))
     = ap (λ (texts : List (List ℕ)). length (all_bytes texts)) (constants_kept asm placed looped valid loops) in
     let most : length (all_bytes (asm_constants asm)) ≤ most_constant_bytes = made.fits.bytes in
-    let bottom_is : runtime.memory.stack_bottom ≡ 32 + 32 * cells + below_pointer (frame_size looped_are) = ap (λ (memory : DataSection). memory.stack_bottom) runtime_is.memory in
+    let bottom_is : runtime.memory.stack_bottom ≡ bytes_before_cells + cell_size * cells + below_pointer (frame_size looped_are)
+    = ap (λ (memory : DataSection). memory.stack_bottom) runtime_is.memory in
     record {
       lines = runtime_is.within;
       runtime_size = omega (arith, runtime_is.words);
@@ -583,7 +584,7 @@ module _ {cells depth : ℕ} {asm : Asm} {placed looped runtime : Placed} {words
       = ap (λ (texts : List (List ℕ)). length (all_bytes texts)) texts_kept in
       omega (arith, small, own, same, rotated, shorter, no_longer, bytes)
 
-memory_aligned : (text : ℕ) → (memory_start text + 32) % 32 ≡ 0
+memory_aligned : (text : ℕ) → (memory_start text + bytes_before_cells) % cell_size ≡ 0
 memory_aligned text = omega arith
 
 -- The image of the text, with the memory that the runtime asks for, is an image of the assembler code.

@@ -11,9 +11,11 @@ use Rattle.kk_mono.specs.Counts.{IsSmall, summed_nodes}
 use Rattle.kk_mono.specs.Instances.{InstanceTree, origin_in, IsInstanceProgram}
 use Rattle.kk_mono.proofs.BodyCopies.{nodes_renamed}
 use Rattle.kk_core.specs.CodeNodes.{drops_words, most_node_words, most_pair_words}
-use Rattle.kk_counted.specs.TokenedCodes.{TokenedFunction}
+use Rattle.kk_counted.specs.TokenedCodes.{TokenedFunction, TokenedProgram}
 use Rattle.kk_counted.specs.TokenedWords.{all_tokened_words}
 use Rattle.kk_middle.specs.FunctionWords.{HaveFewWords}
+use Rattle.kk_back.specs.Sizes.{most_text_bytes}
+use Rattle.kk_build.specs.Texts.{pair_bytes, plain_bytes}
 use Rattle.kk_build.proofs.Nodes.{instances_have_no_more}
 
 -- the nodes of functions in all
@@ -94,12 +96,12 @@ module _ {program made : ProgramTree} {typings : List (List Choice)} {instances 
           sym renamed ∙ body ∙ ap (λ (f : FunctionTree). nodes_of f.body) (sym found)
 
   -- a text of their words has few bytes
-  pub bytes_few : (functions : List TokenedFunction) (bytes : ℕ) → IsSmall made → HaveFewWords made.functions functions
-      → bytes ≤ 4 * (101 + 15 * length functions + all_tokened_words functions)
-      → bytes ≤ 16 * (greatest_nodes program * summed_nodes program instances) + 4194304
-  bytes_few functions bytes small few most =
-      let many = as_many made.functions functions few in
-      let words = words_few (greatest_nodes program) made.functions functions (instances_have_no_more are) few in
+  pub bytes_few : (code : TokenedProgram) (bytes : ℕ) → IsSmall made → HaveFewWords made.functions code.functions
+      → bytes ≤ most_text_bytes code
+      → bytes ≤ pair_bytes * (greatest_nodes program * summed_nodes program instances) + plain_bytes
+  bytes_few code bytes small few most =
+      let many = as_many made.functions code.functions few in
+      let words = words_few (greatest_nodes program) made.functions code.functions (instances_have_no_more are) few in
       let pairs : greatest_nodes program * all_nodes made.functions ≡ greatest_nodes program * summed_nodes program instances
       = ap (λ n. greatest_nodes program * n) summed in
       omega (arith, most, many, words, pairs, small.few, small.nodes)

@@ -20,7 +20,7 @@ ghost use Rattle.kk_perform.specs.Outside.{KeepsFiles, outside};
 use crate::bench::bench_program;
 use elf_image::{BadImage, GREATEST_FILE, Image};
 use kk_answer::{Answer, RunEnd, wants_memory};
-use kk_base::{Bytes, NoMemory, Read, Refusal, Sink, Source, Store, Wrote};
+use kk_base::{Bytes, LimitKind, NoMemory, Read, Refusal, Sink, Source, Store, Wrote};
 use kk_build::{Ending, build};
 use kk_command::{Command, RunOptions, Sizes};
 use kk_eval::evaluate;
@@ -29,9 +29,6 @@ use kk_meaning::Meaning;
 use kk_syntax::Accepted;
 use rv_sim::{Halt, Machine};
 use std::alloc::Global;
-
-/// How many bytes of a text are read: one more than it may have.
-const MOST_OF_TEXT: usize = 65_537;
 
 /// How many bytes of an image are read: one more than it may have.
 const MOST_OF_IMAGE: usize = GREATEST_FILE + 1;
@@ -212,7 +209,8 @@ fn read_text<'a, F: Store>(alloc: Global, file: &'a str, files: &mut F) -> Resul
     ensures kept { OnOk result (KeepsFiles (F.state files.old) (F.state files.new)) }
     ensures err { IfErr result (λ answer. (input : SourceState) (out : SinkState) (image : List ℕ) (request : Request) → file_of request ≡ Some file.now → Answers (outside (F.state files.old) input out image) (outside (F.state files.new) input out image) (Some request) answer) }
 {
-    read_first(alloc, file, MOST_OF_TEXT, files)
+    let most_of_text = LimitKind::Source.greatest() as usize + 1;
+    read_first(alloc, file, most_of_text, files)
 }
 
 /// The bytes of the image in a file, of which no more are read than tell whether they are too many; or the answer where they

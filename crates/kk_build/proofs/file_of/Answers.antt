@@ -95,7 +95,7 @@ returns c =
       text = record {
         instances = instances_of given;
         are = c.requires.given.instances.are;
-        few = bytes_few c.requires.given.instances (tokened_of made given).functions (length (text_of parts)) c.requires.given.small
+        few = bytes_few c.requires.given.instances (tokened_of made given) (length (text_of parts)) c.requires.given.small
             words bytes;
       };
       memory = record {
