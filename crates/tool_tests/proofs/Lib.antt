@@ -1,1 +1,2 @@
 mod FusedFunction
+mod HandRuns

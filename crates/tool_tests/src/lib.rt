@@ -11,12 +11,18 @@ mod devices;
 #[cfg(test)]
 mod fusion;
 #[cfg(test)]
+mod hand_code;
+#[cfg(test)]
 mod layers;
 #[cfg(test)]
 mod same_cells;
+#[cfg(test)]
+mod sides;
 #[cfg(test)]
 mod token_heap;
 #[cfg(test)]
 mod token_machine;
 #[cfg(test)]
 mod tokens;
+#[cfg(test)]
+mod walk;

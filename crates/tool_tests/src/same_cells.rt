@@ -1,37 +1,19 @@
-//! An image ends as the slow machine does: with the same output, and with the same counted cells.
+//! An image goes as the slow machine does: at each form it has put the same bytes, and has the same free, held and counted cells.
 
-ghost use Rattle.kk_base.specs.Sizes.{AreSizes};
-
+use crate::hand_code::{hand_file, hand_program};
 use crate::layers::{DEPTH, HELD, REVERSE, SHARED_PAIR, with_increment};
-use crate::token_heap::{Heap, Value};
+use crate::token_heap::Value;
 use crate::token_machine::{End, TokenMachine};
 use crate::tokens::compiled;
-use kk_base::{GREATEST_CELLS, GREATEST_DEPTH, NoMemory};
+use crate::walk::Walk;
+use kk_base::{Bytes, GREATEST_CELLS, GREATEST_DEPTH};
 use kk_build::build;
-use kk_core::ConstructorShape;
 use kk_counted::Tokened;
-use kk_memio::{MemSink, MemSource};
-use kk_syntax::{Accepted, StringLiteral};
-use rv_sim::{Halt, Machine};
+use kk_syntax::Accepted;
+use rv_sim::Halt;
 use std::alloc::Global;
 use std::process::Abort;
 use std::test::Fail;
-
-/// The most steps of a run of the slow machine, and the most instructions of one of an image.
-const STEPS: u32 = 5_000_000;
-
-const INSTRUCTIONS: u64 = 100_000_000;
-
-/// No count of these runs is as great. A free cell's first word is 0 or an address, and those of the memory are not below.
-const LEAST_ADDRESS: u32 = 0x10000;
-
-/// The cells begin behind the buffer of the memory part.
-const BUFFER: u32 = 32;
-
-const CELL_BYTES: u32 = 32;
-
-/// The most cells that are compared where one is unfolded.
-const UNFOLDED: u32 = 100_000;
 
 /// A text, and the least numbers of cells and of open calls with which it ends by itself.
 struct Row {
@@ -155,7 +137,22 @@ fun main()
     Nil -> println(0)
 ";
 
-const ROWS: [Row; 9] = [
+/// Behind the block of the match three tokens stand in the same slots, of which one is null where `One` was opened.
+const JOINED: &str = "type box { Box(v: int32) }
+type pair { Pair(first: box, second: box); One(only: box) }
+fun j(p: pair): pair
+  val c = p
+  val t = match c
+    Pair(Box(x), Box(y)) -> x + y
+    One(Box(x)) -> x
+  Pair(Box(t), Box(t + 1))
+fun main()
+  match j(j(One(Box(3))))
+    Pair(Box(x), Box(y)) -> println(10 * x + y)
+    One(Box(x)) -> println(x)
+";
+
+const ROWS: [Row; 10] = [
     Row {
         text: REVERSE,
         cells: 3,
@@ -201,6 +198,11 @@ const ROWS: [Row; 9] = [
         cells: 14,
         depth: 6,
     },
+    Row {
+        text: JOINED,
+        cells: 3,
+        depth: 2,
+    },
 ];
 
 /// The code of a text with its tokens, and the text's instances.
@@ -222,167 +224,6 @@ fn compile_text(alloc: Global, text: &'static str) -> Result<Compiled, Fail> {
     }
 }
 
-/// An image that has run on an empty input.
-#[derive(Drop)]
-struct Ran {
-    machine: Machine,
-    halt: Halt,
-    out: MemSink,
-    /// The address of the first cell.
-    first: u32,
-}
-
-fn run_image(alloc: Global, text: &str, cells: u32, depth: u32) -> Result<Ran, Fail>
-    requires { AreSizes cells depth }
-{
-    let file = match build(alloc, text.as_bytes(), cells, depth) {
-        Ok(file) => file,
-        Err(_) => return Err(Fail::new("nothing is built")),
-    };
-    let image = elf_image::read(alloc, file.as_slice())?;
-    let memory = image.parts.as_slice().get(1).ok_or("no memory part")?;
-    let first = memory.vaddr.wrapping_add(BUFFER);
-    let mut machine = Machine::load(alloc, &image)?;
-    let mut input = MemSource::new(alloc, b"", &[])?;
-    let mut out = MemSink::new(alloc, 100, &[])?;
-    let halt = machine.run(INSTRUCTIONS, &mut input, &mut out);
-    Ok(Ran {
-        machine,
-        halt,
-        out,
-        first,
-    })
-}
-
-/// The header of a cell of a constructor: its tag, and bits for the fields that can hold cells.
-fn header_of(shape: &ConstructorShape) -> u32 {
-    let mut header = shape.tag;
-    let mut bit: u32 = 256;
-    for holds in &shape.fields {
-        if *holds {
-            header = header.wrapping_add(bit);
-        }
-        bit = bit.wrapping_mul(2);
-    }
-    header
-}
-
-/// The word of a value that is no cell; none of a cell.
-fn word_of(shapes: &[ConstructorShape], value: Value) -> Option<u32> {
-    match value {
-        Value::Integer(number) => Some(u32::from_le_bytes(number.to_le_bytes())),
-        Value::Unit => Some(1),
-        Value::Constant(constructor) => {
-            let shape = shapes.get(constructor as usize)?;
-            Some(shape.tag.wrapping_mul(2).wrapping_add(1))
-        }
-        Value::Place(_) => None,
-    }
-}
-
-/// A cell of the slow machine, by its name, and one of an image, by its address.
-#[derive(Clone, Copy)]
-struct Pair {
-    name: usize,
-    at: u32,
-}
-
-/// The counted cells of the slow machine beside those of an image.
-#[derive(Drop)]
-struct Sides<'a> {
-    alloc: Global,
-    shapes: &'a [ConstructorShape],
-    heap: &'a Heap,
-    machine: &'a Machine,
-}
-
-impl Sides<'_> {
-    /// Whether two cells have the same count and header and the same words. The cells that their fields name are left.
-    fn are_alike(&self, pair: Pair, left: &mut Vec<Pair>) -> Result<bool, Fail> {
-        let cell = self.heap.cells.get(pair.name).ok_or("no such cell")?;
-        let shape = self.shapes.get(cell.made_by as usize).ok_or("no shape")?;
-        let count = self.machine.word(pair.at);
-        let header = self.machine.word(pair.at.wrapping_add(4));
-        let is_whole = cell.fields.len() == shape.fields.len();
-        if count != Some(cell.count) || header != Some(header_of(shape)) || !is_whole {
-            return Ok(false);
-        }
-        let mut at = pair.at.wrapping_add(8);
-        for field in &cell.fields {
-            let word = self.machine.word(at).ok_or("no such word")?;
-            match *field {
-                Value::Place(name) => left.push(Pair { name, at: word })?,
-                other => {
-                    if word_of(self.shapes, other) != Some(word) {
-                        return Ok(false);
-                    }
-                }
-            }
-            at = at.wrapping_add(4);
-        }
-        Ok(true)
-    }
-
-    /// Whether two cells are alike, and those that their fields name, and so on.
-    fn unfold_alike(&self, pair: Pair) -> Result<bool, Fail> {
-        let mut left = Vec::new(self.alloc);
-        left.push(pair)?;
-        for _ in 0..UNFOLDED {
-            let Some(pair) = left.pop() else {
-                return Ok(true);
-            };
-            if !self.are_alike(pair, &mut left)? {
-                return Ok(false);
-            }
-        }
-        Err(Fail::new("too many cells are unfolded"))
-    }
-
-    /// The addresses of the image's counted cells.
-    fn addresses(&self, first: u32, cells: u32) -> Result<Vec<u32>, Fail> {
-        let mut addresses = Vec::new(self.alloc);
-        let mut at = first;
-        for _ in 0..cells {
-            let count = self.machine.word(at).ok_or("no such cell")?;
-            if count > 0 && count < LEAST_ADDRESS {
-                addresses.push(at)?;
-            }
-            at = at.wrapping_add(CELL_BYTES);
-        }
-        Ok(addresses)
-    }
-
-    /// Strikes out the first address whose cell unfolds as the one of a name, if there is one.
-    fn strike(&self, name: usize, addresses: &mut [u32]) -> Result<bool, Fail> {
-        for address in addresses {
-            if *address != 0 && self.unfold_alike(Pair { name, at: *address })? {
-                *address = 0;
-                return Ok(true);
-            }
-        }
-        Ok(false)
-    }
-
-    /// How many counted cells there are on each side, where each unfolds as one of the other side; else none.
-    fn counted_alike(&self, first: u32, cells: u32) -> Result<Option<usize>, Fail> {
-        let mut addresses = self.addresses(first, cells)?;
-        let mut counted: usize = 0;
-        for (name, cell) in self.heap.cells.iter().enumerate() {
-            if cell.count > 0 {
-                if !self.strike(name, &mut addresses)? {
-                    return Ok(None);
-                }
-                counted = counted.saturating_add(1);
-            }
-        }
-        Ok(if counted == addresses.len() {
-            Some(counted)
-        } else {
-            None
-        })
-    }
-}
-
 /// How an image halts at an end.
 fn halt_of(end: End) -> Halt {
     match end {
@@ -392,78 +233,136 @@ fn halt_of(end: End) -> Halt {
     }
 }
 
-/// How many cells are counted in the slow machine and in an image of a text, where they are alike; else none.
-fn counted_in(
-    alloc: Global,
-    compiled: &Compiled,
-    heap: &Heap,
-    ran: &Ran,
-    cells: u32,
-) -> Result<Option<usize>, Fail> {
-    let sides = Sides {
-        alloc,
-        shapes: compiled.tokened.shape.constructors(),
-        heap,
-        machine: &ran.machine,
-    };
-    sides.counted_alike(ran.first, cells)
+/// The file of the image of a text.
+fn file_of(alloc: Global, text: &str, cells: u32, depth: u32) -> Result<Bytes, Fail> {
+    if cells > GREATEST_CELLS || depth == 0 || depth > GREATEST_DEPTH {
+        return Err(Fail::new("no image has such sizes"));
+    }
+    match build(alloc, text.as_bytes(), cells, depth) {
+        Ok(file) => Ok(file),
+        Err(_) => Err(Fail::new("nothing is built")),
+    }
 }
 
 /// How a text ends with so many cells and open calls, and how many cells are counted then. The image and the slow machine have to
-/// agree.
+/// agree: at each form too, or at the end alone. Forms at which they were compared are added.
 fn check_same(
     rt: &impl Abort,
     alloc: Global,
     compiled: &Compiled,
-    cells: u32,
-    depth: u32,
+    (cells, depth): (u32, u32),
+    forms: Option<&mut Vec<&'static str>>,
 ) -> Result<(End, usize), Fail> {
-    if cells > GREATEST_CELLS || depth == 0 || depth > GREATEST_DEPTH {
-        return Err(Fail::new("no image has such sizes"));
-    }
     let text = compiled.text;
     let texts = &compiled.accepted.instances.texts;
     let mut slow = TokenMachine::new(alloc, &compiled.tokened, texts, cells, depth)?;
-    let end = slow.run(STEPS)?;
-    let ran = run_image(alloc, text, cells, depth)?;
-    assert_eq!(rt;
-        ran.halt,
-        halt_of(end),
-        "{cells} cells, depth {depth}: {text}"
-    );
-    let free = ran.machine.free_cells(cells) as usize;
-    assert_eq!(rt;
-        free,
-        slow.heap.free_cells(),
-        "{cells} cells, depth {depth}: {text}"
-    );
-    let is_same_output = ran.out.held_bytes() == slow.output.as_slice();
-    assert!(rt; is_same_output, "{cells} cells, depth {depth}: {text}");
-    let counted = counted_in(alloc, compiled, &slow.heap, &ran, cells)?;
-    assert!(rt; counted.is_some(), "{cells} cells, depth {depth}: {text}");
-    Ok((end, counted.unwrap_or(0)))
+    let file = file_of(alloc, text, cells, depth)?;
+    let shapes = compiled.tokened.shape.constructors();
+    let mut walk = Walk::new(alloc, shapes, file.as_slice(), cells, depth)?;
+    let (end, halt) = match forms {
+        Some(forms) => {
+            let ends = walk.follow(&mut slow)?;
+            forms.extend_from_slice(&walk.forms)?;
+            ends
+        }
+        None => walk.run(&mut slow)?,
+    };
+    assert_eq!(rt; halt, halt_of(end), "{cells} cells, depth {depth}: {text}");
+    let is_like = walk.is_like(&slow)?;
+    assert!(rt; is_like, "{cells} cells, depth {depth}: {text}");
+    Ok((end, walk.counted(&slow)?.unwrap_or(0)))
 }
 
 /// With fewer cells the heap is full, and each of them is counted. With fewer open calls the stack is full. At the end of a run no
 /// cell is counted.
+fn check_row(
+    rt: &impl Abort,
+    alloc: Global,
+    row: &Row,
+    forms: &mut Vec<&'static str>,
+) -> Result<(), Fail> {
+    let text = row.text;
+    let compiled = compile_text(alloc, text)?;
+    for cells in 0..row.cells {
+        let sizes = (cells, row.depth);
+        let (full, counted) = check_same(rt, alloc, &compiled, sizes, Some(forms))?;
+        assert!(rt;
+            full == End::HeapFull && counted == cells as usize,
+            "{cells} cells of {text}"
+        );
+    }
+    for depth in 1..row.depth {
+        let sizes = (row.cells, depth);
+        let (full, _) = check_same(rt, alloc, &compiled, sizes, Some(forms))?;
+        assert!(rt; full == End::StackFull, "depth {depth} of {text}");
+    }
+    let sizes = (row.cells, row.depth);
+    let (end, left) = check_same(rt, alloc, &compiled, sizes, Some(forms))?;
+    assert!(rt; end == End::Ended && left == 0, "{text}");
+    Ok(())
+}
+
+/// The forms of compiled code. Each occurs in a run.
+const FORMS: [&str; 17] = [
+    "Let",
+    "Call",
+    "Inside",
+    "Read",
+    "IfUnique",
+    "Dup",
+    "Drop",
+    "Fill",
+    "Fill of null",
+    "Free",
+    "Null",
+    "Move",
+    "Hold",
+    "Unhold",
+    "Return",
+    "TailCall",
+    "Case",
+];
+
 #[test]
 fn images_have_the_cells_of_the_slow_machine(rt: HostRuntime) -> Result<(), Fail> {
+    let mut forms = Vec::new(rt.alloc());
     for row in &ROWS {
-        let compiled = compile_text(rt.alloc(), row.text)?;
-        for cells in 0..row.cells {
-            let (full, counted) = check_same(&rt, rt.alloc(), &compiled, cells, row.depth)?;
-            assert!(rt;
-                full == End::HeapFull && counted == cells as usize,
-                "{cells} cells of {}",
-                row.text
-            );
-        }
-        for depth in 1..row.depth {
-            let (full, _) = check_same(&rt, rt.alloc(), &compiled, row.cells, depth)?;
-            assert!(rt; full == End::StackFull, "depth {depth} of {}", row.text);
-        }
-        let (end, left) = check_same(&rt, rt.alloc(), &compiled, row.cells, row.depth)?;
-        assert!(rt; end == End::Ended && left == 0, "{}", row.text);
+        check_row(&rt, rt.alloc(), row, &mut forms)?;
+    }
+    for form in &FORMS {
+        assert!(rt; forms.contains(form), "{form}");
+    }
+    Ok(())
+}
+
+/// The forms that only code by hand has. Each occurs in a run: with two cells the token is taken, and with three it is left.
+const HAND_FORMS: [&str; 4] = [
+    "Open",
+    "Let beside tokens",
+    "IfToken there",
+    "IfToken absent",
+];
+
+#[test]
+fn code_by_hand_has_the_cells_of_the_slow_machine(rt: HostRuntime) -> Result<(), Fail> {
+    let mut forms = Vec::new(rt.alloc());
+    let tokened = hand_program(rt.alloc())?;
+    for cells in 0..4 {
+        let mut slow = TokenMachine::new(rt.alloc(), &tokened, &[], cells, 1)?;
+        let file = hand_file(rt.alloc(), cells)?;
+        let shapes = tokened.shape.constructors();
+        let mut walk = Walk::new(rt.alloc(), shapes, file.as_slice(), cells, 1)?;
+        let (end, halt) = walk.follow(&mut slow)?;
+        assert_eq!(rt; halt, halt_of(end), "{cells} cells");
+        let is_like = walk.is_like(&slow)?;
+        assert!(rt;
+            is_like && (end == End::HeapFull) == (cells < 2),
+            "{cells} cells"
+        );
+        forms.extend_from_slice(&walk.forms)?;
+    }
+    for form in &HAND_FORMS {
+        assert!(rt; forms.contains(form), "{form}");
     }
     Ok(())
 }
@@ -471,9 +370,9 @@ fn images_have_the_cells_of_the_slow_machine(rt: HostRuntime) -> Result<(), Fail
 #[test]
 fn long_lists_are_dropped_at_once(rt: HostRuntime) -> Result<(), Fail> {
     let compiled = compile_text(rt.alloc(), LONG)?;
-    let (full, counted) = check_same(&rt, rt.alloc(), &compiled, 50, DEPTH)?;
+    let (full, counted) = check_same(&rt, rt.alloc(), &compiled, (50, DEPTH), None)?;
     assert!(rt; full == End::HeapFull && counted == 50);
-    let (end, left) = check_same(&rt, rt.alloc(), &compiled, 60_000, DEPTH)?;
+    let (end, left) = check_same(&rt, rt.alloc(), &compiled, (60_000, DEPTH), None)?;
     assert!(rt; end == End::Ended && left == 0);
     Ok(())
 }
@@ -483,26 +382,28 @@ fn long_lists_are_dropped_at_once(rt: HostRuntime) -> Result<(), Fail> {
 fn other_cells_are_told_apart(rt: HostRuntime) -> Result<(), Fail> {
     let compiled = compile_text(rt.alloc(), REVERSE)?;
     let texts = &compiled.accepted.instances.texts;
-    let ran = run_image(rt.alloc(), REVERSE, 2, DEPTH)?;
+    let file = file_of(rt.alloc(), REVERSE, 2, DEPTH)?;
+    let shapes = compiled.tokened.shape.constructors();
+    let mut walk = Walk::new(rt.alloc(), shapes, file.as_slice(), 2, DEPTH)?;
     let mut slow = TokenMachine::new(rt.alloc(), &compiled.tokened, texts, 2, DEPTH)?;
-    slow.run(STEPS)?;
-    let same = counted_in(rt.alloc(), &compiled, &slow.heap, &ran, 2)?;
+    walk.run(&mut slow)?;
+    let same = walk.counted(&slow)?;
     assert_eq!(rt; same, Some(2));
     let cell = slow.heap.cells.last_mut().ok_or("no cell")?;
     let made_by = cell.made_by;
     cell.count = 2;
-    let counted = counted_in(rt.alloc(), &compiled, &slow.heap, &ran, 2)?;
+    let counted = walk.counted(&slow)?;
     assert_eq!(rt; counted, None);
     let cell = slow.heap.cells.last_mut().ok_or("no cell")?;
     cell.count = 1;
     cell.made_by = 0;
-    let made = counted_in(rt.alloc(), &compiled, &slow.heap, &ran, 2)?;
+    let made = walk.counted(&slow)?;
     assert_eq!(rt; made, None);
     let cell = slow.heap.cells.last_mut().ok_or("no cell")?;
     cell.made_by = made_by;
     let field = cell.fields.first_mut().ok_or("no field")?;
     *field = Value::Integer(9);
-    let filled = counted_in(rt.alloc(), &compiled, &slow.heap, &ran, 2)?;
+    let filled = walk.counted(&slow)?;
     assert_eq!(rt; filled, None);
     Ok(())
 }

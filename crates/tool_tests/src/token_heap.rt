@@ -83,8 +83,13 @@ impl Heap {
             .saturating_sub(self.tokens())
     }
 
+    /// The held slots, the newest one last.
+    pub(crate) fn chain(&self) -> &[Slot] {
+        &self.chain
+    }
+
     /// How many cells are tokens.
-    fn tokens(&self) -> usize {
+    pub(crate) fn tokens(&self) -> usize {
         let mut tokens: usize = 0;
         for kept in &self.kept {
             if matches!(kept.token, Token::Cell(_)) {
@@ -193,7 +198,7 @@ impl Heap {
                 frame,
                 number: *number,
             };
-            if matches!(self.token(slot), Token::Cell(_)) {
+            if self.has_cell(slot) {
                 self.set(slot, Token::Null)?;
                 return Ok(true);
             }
@@ -201,11 +206,16 @@ impl Heap {
         let Some(slot) = self.chain.pop() else {
             return Ok(false);
         };
-        if !matches!(self.token(slot), Token::Cell(_)) {
+        if !self.has_cell(slot) {
             return Err(Fail::new("a held slot has no token"));
         }
         self.set(slot, Token::Null)?;
         Ok(true)
+    }
+
+    /// Whether a slot has the token of a cell.
+    pub(crate) fn has_cell(&self, slot: Slot) -> bool {
+        matches!(self.token(slot), Token::Cell(_))
     }
 
     /// What a slot has.

@@ -100,8 +100,51 @@ impl<'a> TokenMachine<'a> {
         Err(Fail::new("the steps are spent"))
     }
 
+    /// The form that comes next.
+    pub(crate) fn form(&self) -> &'static str {
+        match self.code.steps.first() {
+            Some(step) => self.form_of(step),
+            None => match self.code.last {
+                TokenedLast::Return(_) => "Return",
+                TokenedLast::TailCall(_, _) => "TailCall",
+                TokenedLast::Case(_, _, _) => "Case",
+                TokenedLast::IfToken(slot, _, _) if self.has_cell(*slot) => "IfToken there",
+                TokenedLast::IfToken(_, _, _) => "IfToken absent",
+            },
+        }
+    }
+
+    fn form_of(&self, step: &TokenedStep) -> &'static str {
+        match step {
+            TokenedStep::Let {
+                form: Form::Call(_),
+                ..
+            } => "Call",
+            TokenedStep::Let { others, .. } if others.is_empty() => "Let",
+            TokenedStep::Let { .. } => "Let beside tokens",
+            TokenedStep::Inside { .. } => "Inside",
+            TokenedStep::Read { .. } => "Read",
+            TokenedStep::Open { .. } => "Open",
+            TokenedStep::IfUnique { .. } => "IfUnique",
+            TokenedStep::Dup { .. } => "Dup",
+            TokenedStep::Drop { .. } => "Drop",
+            TokenedStep::Fill { slot, .. } if self.has_cell(*slot) => "Fill",
+            TokenedStep::Fill { .. } => "Fill of null",
+            TokenedStep::Free { .. } => "Free",
+            TokenedStep::Null { .. } => "Null",
+            TokenedStep::Move { .. } => "Move",
+            TokenedStep::Hold { .. } => "Hold",
+            TokenedStep::Unhold { .. } => "Unhold",
+        }
+    }
+
+    /// Whether a slot of the running function has a cell.
+    fn has_cell(&self, slot: u32) -> bool {
+        self.heap.has_cell(self.slot(slot))
+    }
+
     /// One step. How the run has ended, if it has.
-    fn step(&mut self) -> Result<Option<End>, Fail> {
+    pub(crate) fn step(&mut self) -> Result<Option<End>, Fail> {
         match self.code.steps.split_first() {
             Some((step, rest)) => {
                 self.code.steps = rest;
@@ -120,9 +163,9 @@ impl<'a> TokenMachine<'a> {
                 Ok(None)
             }
             TokenedStep::Let {
-                variable,
                 form,
                 arguments,
+                variable,
                 others,
             } => {
                 let values = self.values_of(arguments)?;
@@ -132,8 +175,8 @@ impl<'a> TokenMachine<'a> {
                 first,
                 arguments,
                 variable,
-                slot,
                 constructor,
+                slot,
                 kept,
                 others,
             } => {
@@ -162,11 +205,11 @@ impl<'a> TokenMachine<'a> {
                 self.bind_all(fields, &values)
             }
             TokenedStep::Open {
+                slot,
                 variable,
                 constructor,
                 fields,
                 used,
-                slot,
             } => self.open(false, *variable, *constructor, fields, used, *slot),
             TokenedStep::IfUnique {
                 variable,
