@@ -32,6 +32,7 @@ use Rattle.elf_image.specs.Parts.{memory_of}
 use Rattle.elf_image.specs.Program.{IsProgramImage, program_parts, text_of, memory_size_of, text_start, memory_start}
 use Rattle.elf_image.specs.declared.part.Part.{Part}
 use Rattle.cell_heap.specs.Pool.{Pool}
+use Rattle.cell_heap.specs.ProgramMemory.{HoldsCells}
 use Rattle.cell_runtime.specs.Sizes.{runtime_words}
 use Rattle.cell_runtime.specs.Layouts.{below_pointer, bytes_before_cells}
 use Rattle.cell_runtime.proofs.AddressReach.{below_most}
@@ -57,6 +58,8 @@ use Rattle.rv_loops.proofs.Simulation.{simulates as rotated_simulates}
 use Rattle.rv_loops.proofs.StartStates.{starts as rotated_starts, agrees as rotated_agrees, never_stuck as rotated_never}
 use Rattle.rv_isa.specs.FrameSizes.{frame_size}
 use Rattle.rv_place.specs.Bytes.{IsTextOf}
+use Rattle.rv_place.specs.Grounds.{stack_end}
+use Rattle.rv_place.specs.HeldSlots.{AreHeld, HasHeldTokens}
 use Rattle.rv_place.specs.Images.{IsPlacedImage, EndsWithCells, first_processor, outside_lines}
 use Rattle.rv_place.specs.LineAddresses.{line_address}
 use Rattle.rv_place.specs.ProcessorStates.{HasCells, NeverStuck}
@@ -66,10 +69,11 @@ use Rattle.rv_place.proofs.BootFits.{FitsImage, fits-image}
 use Rattle.rv_place.proofs.BootMemory.{text-fetched}
 use Rattle.rv_place.proofs.BootSizes.{bytes_most}
 use Rattle.rv_place.specs.declared.words.Words.{Words}
-use Rattle.kk_back.specs.Assembled.{IsPlaceable, IsAsmImage}
+use Rattle.kk_back.specs.Assembled.{IsPlaceable, HasHeldFrames, IsAsmImage}
 use Rattle.kk_back.specs.Sizes.{most_asm_bytes}
 use Rattle.kk_back.proofs.RotatedCode.{slots_below, all_plain, as_many_rotated, opposes, computes_alone}
 use Rattle.kk_back.proofs.FrameSizes.{frame_most, as_many}
+use Rattle.kk_back.proofs.HeldFrames.{held_before_rotation, held_before_places}
 use Rattle.kk_back.proofs.PlainCode.{placed_is_plain}
 
 -- ---- a runtime and a program that can be placed
@@ -206,7 +210,7 @@ pub record PlacedTextComes : Type 0 where
       → (count : ℕ) × ((s : Processor) × ((run count (first_processor text runtime.memory.size input) ≡ goes s)
       × ((trace (processor_machine rv32im) count (goes (first_processor text runtime.memory.size input))
       ≡ trace (machine_of cells depth runtime program) n (start_of cells runtime program main input))
-      × HasCells (pool_in cells runtime program) t.shared.cells s)))
+      × HasHeldTokens (map_of runtime program) (pool_in cells runtime program) depth t s)))
   pub apart : (cells depth : ℕ) (runtime program : Placed) (words : Words) (text : List ℕ) (main : PlacedLines)
       → IsPlacedImage cells depth runtime program words text main
       → (f j g i : ℕ) → PlacedHasLine (placed_functions program) f j → PlacedHasLine (placed_functions program) g i
@@ -467,11 +471,12 @@ module _ {cells depth : ℕ} {asm : Asm} {placed looped runtime : Placed} {words
         let last = low.1.1 in
         (low.0, (low.1.0, (last.0, (last.1.0, (last.1.1.0 ∙ on_constants.0 ∙ there.1.0, last.1.1.1)))))
 
-    -- and for each state in which it goes on there is a number behind which the run goes on, and memory has the cells
+    -- and for each state in which it goes on there is a number behind which the run goes on, and memory has the cells and the held
+    -- tokens
     pub follows : PlacedTextComes → (n : ℕ) (high : AsmState World) → state asm_runs n asm_begins ≡ go high
         → (count : ℕ) × ((s : Processor) × ((run count (first_processor text runtime.memory.size input) ≡ goes s)
         × ((trace (processor_machine rv32im) count (goes (first_processor text runtime.memory.size input)) ≡ trace asm_runs n asm_begins)
-        × HasCells pool high.shared.cells s)))
+        × HasHeldFrames pool (map_of runtime looped).frame (stack_end (map_of runtime looped) depth) high s)))
     follows text_comes n high is =
         let each = follows_each_state (primitives constants pool) depth (asm_functions asm) (placed_functions placed) main
         (first_world pool input) makes.valid.functions makes.made.main_is makes.made.main_params never in
@@ -486,13 +491,22 @@ module _ {cells depth : ℕ} {asm : Asm} {placed looped runtime : Placed} {words
         (state (placed_machine (primitives c pool) depth (placed_functions looped)) further.0 loops_from ≡ go middle)
         × ((trace (placed_machine (primitives c pool) depth (placed_functions looped)) further.0 loops_from
         ≡ trace placed_runs there.0 (begins each.0))
-        × (middle.shared ≡ there.1.0.shared))) (sym same_constants) further.1.1 in
+        × (middle.shared ≡ there.1.0.shared))) (sym same_constants)
+        (further.1.1.0, (further.1.1.1.0, further.1.1.1.1.0)) in
         let low = text_comes.follows cells depth runtime looped words text input again.0 (image_by again.0 again.1.0) bytes
         (looped_never again.0 again.1.0) further.0 middle on_constants.0 in
         let last = low.1.1 in
-        let has : HasCells pool high.shared.cells low.1.0
-        = subst (λ (w : World). HasCells pool w.cells low.1.0) (on_constants.1.1 ∙ there.1.1.1.1) last.1.1 in
-        (low.0, (low.1.0, (last.0, (last.1.0 ∙ on_constants.1.0 ∙ there.1.1.1.0, has))))
+        let links = last.1.1.0 in
+        let cells_held : HoldsCells pool high.shared.cells links low.1.0
+        = subst (λ (w : World). HoldsCells pool w.cells links low.1.0) (on_constants.1.1 ∙ there.1.1.1.1.0) last.1.1.1.0 in
+        let size = (map_of runtime looped).frame in
+        let end = stack_end (map_of runtime looped) depth in
+        let placed_held : AreHeld size end there.1.0.frames links
+        = held_before_rotation size end (placed_functions placed) (placed_functions looped) there.1.0.frames middle.frames
+        further.1.1.1.1.1 links last.1.1.1.1 in
+        let held : AreHeld size end high.frames links
+        = held_before_places size end there.1.0.registers high.frames there.1.0.frames there.1.1.1.1.1 links placed_held in
+        (low.0, (low.1.0, (last.0, (last.1.0 ∙ on_constants.1.0 ∙ there.1.1.1.0, (links, (cells_held, held))))))
 
     -- the rotated code of the first function
     looped_first : (looped_main : PlacedLines) × (slice_get (placed_functions looped) 0 ≡ Some looped_main)
@@ -641,6 +655,8 @@ image_of {cells} {depth} {asm} {placed} {looped} {runtime} {words} {text} makes 
           subst (λ (e : ℕ). TouchesNoFreeCell e runtime_words cells (run count (start (memory_of parts) entry input))) (sym entry_is) on_text;
       lines = record {
         address = address makes;
+        frame = (map_of runtime looped).frame;
+        stack = stack_end (map_of runtime looped) depth;
         apart = lines_are_apart makes text_comes;
         outside = λ f k has.
             subst (λ (e : ℕ). e + 4 * runtime_words ≤ address makes f k) (sym entry_is) (lines_are_outside makes text_comes f k has);
@@ -661,7 +677,8 @@ image_of {cells} {depth} {asm} {placed} {looped} {runtime} {words} {text} makes 
               subst (λ (begun : _). (s : Processor) × ((run whole.0 (begun input) ≡ goes s)
                   × ((trace (processor_machine rv32im) whole.0 (goes (begun input))
                   ≡ trace (asm_runs makes input bytes never) n (asm_begins makes input bytes never))
-                  × HasCells (pool makes) high.shared.cells s))) (sym there) whole.1,
+                  × HasHeldFrames (pool makes) (map_of runtime looped).frame (stack_end (map_of runtime looped) depth) high s)))
+                  (sym there) whole.1,
             );
       };
     }

@@ -31,18 +31,21 @@ use Rattle.rv_cells.specs.Meaning.{setting_on}
 use Rattle.rv_cells.specs.Tables.{table_of, layout_in}
 use Rattle.rv_cells.specs.TokenedFunctions.{most_values_of}
 use Rattle.rv_cells.specs.TokenedLowered.{IsTokenedForm}
+use Rattle.rv_cells.specs.TokenMemory.{FollowTheirTokens}
 use Rattle.rv_cells.specs.TokenedMeaning.{roomy_outside, IsTokenedLowered, TokenedRunsTheSame}
 use Rattle.rv_place.specs.Images.{outside_lines}
 use Rattle.cell_runtime.specs.Operations.{Constants}
 use Rattle.cell_runtime.specs.World.{first_world, primitives}
 use Rattle.kk_back.specs.Assembled.{IsPlaceable, IsAsmImage, IsImageOfAsm}
 use Rattle.kk_back.specs.Images.{counted_setting, IsRunnable, IsImageOf, HasOwnAddresses}
+use Rattle.kk_back.specs.TokenStates.{ComesToTokenStates}
 use Rattle.kk_back.specs.FreeCells.{AreAllFree}
 use Rattle.kk_back.specs.Memory.{HasMemory}
 use Rattle.kk_back.specs.Sizes.{FitsText, most_text_bytes}
 use Rattle.kk_back.proofs.ImageLayers.{same_some}
 use Rattle.kk_back.proofs.FreeCells.{all_are_free}
 use Rattle.kk_back.proofs.OwnAddresses.{own_addresses}
+use Rattle.kk_back.proofs.TokenStates.{comes_to_states}
 
 no_params : (names : List ℕ) (n : ℕ) → names ≡ from_to 0 n → n ≡ 0 → names ≡ []
 no_params names n are none = are ∙ ap (from_to 0) none
@@ -184,6 +187,14 @@ module _ (shape : Shape) (code : TokenedProgram) (functions : List Lines) (texts
               );
           touches_no_free = λ input bytes. image.touches_no_free input bytes (never input bytes);
         }
+
+      -- it comes to each state of the machine with tokens
+      pub token_states_are : FollowTheirTokens → ComesToTokenStates (layout_in shape) code cells depth entry parts
+      token_states_are follow_their_tokens =
+          comes_to_states functions texts lowered.main_lines cells depth entry parts image (layout_in shape) code
+          (λ room enough input bytes.
+          follow_their_tokens (layout_in shape) (table_of shape) code texts functions lowered room enough image.pool depth
+          image.first input image.aligned image.behind bytes (are_fit room enough input bytes)) never
 
       module _ (come_to_their_lines : ComeToTheirLines) where
         -- each form has lines of its own

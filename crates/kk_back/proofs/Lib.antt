@@ -1,7 +1,9 @@
 pub mod FrameSizes
 pub mod PlainCode
 pub mod RotatedCode
+pub mod HeldFrames
 pub mod ImageLayers
 pub mod FreeCells
 pub mod OwnAddresses
+pub mod TokenStates
 pub mod ImageMeaning

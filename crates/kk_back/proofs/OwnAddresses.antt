@@ -193,7 +193,7 @@ module _ (functions : List Lines) (texts : List (List ℕ)) (main : Lines) (cell
         let (m, (high, (there, (told, heap)))) = (comes room enough input bytes).1 n form environment joins runs in
         let (count, (s, (goes_on, (events, has)))) =
         image.lines.follows input bytes (never room enough input bytes) m high there in
-        (count, (s, (goes_on, (events ∙ told, (high.shared.cells, (has, heap))))))
+        (count, (s, (goes_on, (events ∙ told, (high.shared.cells, ((has.0, has.1.0), heap))))))
 
     -- a state of the one setting is one of the other
     on_that : (room : ℕ) (input : List ℕ) (n : ℕ) (form : Counted) (environment : Environment) (joins : List CountedJoin)

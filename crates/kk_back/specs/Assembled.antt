@@ -3,6 +3,8 @@ use Rattle.std.specs.Prelude.{◌≡◌, ◌≢◌, ℕ, ◌+◌, ◌*◌, ◌%�
 use Rattle.kk_base.specs.Agreements.{Agree}
 use Rattle.kk_base.specs.Machines.{state, trace}
 use Rattle.cell_heap.specs.Pool.{Pool}
+use Rattle.cell_heap.specs.ProgramMemory.{HoldsCells}
+use Rattle.cell_heap.specs.View.{Link}
 use Rattle.cell_runtime.specs.Sizes.{runtime_words}
 use Rattle.elf_image.specs.Parts.{memory_of}
 use Rattle.elf_image.specs.Program.{IsProgramImage, text_of}
@@ -17,6 +19,7 @@ use Rattle.rv_isa.specs.Primitives.{go, ended, stuck}
 use Rattle.rv_isa.specs.Processor.{Processor, Ending, can_fetch, start, goes}
 use Rattle.rv_isa.specs.ProcessorMachine.{processor_machine}
 use Rattle.rv_isa.specs.WellFormed.{AreWellFormed}
+use Rattle.rv_place.specs.HeldSlots.{AreHeld}
 use Rattle.rv_place.specs.Images.{EndsWithCells, outside_lines}
 use Rattle.rv_place.specs.ProcessorStates.{HasCells}
 use Rattle.rv_place.specs.Texts.{most_functions}
@@ -34,15 +37,24 @@ pub record IsPlaceable (functions : List Lines) (texts : List (List ℕ)) : Type
   pub main_is : slice_get functions 0 ≡ Some main
   pub main_params : main.params ≡ []
 
+-- Memory has the cells of a state, and on its chain the held tokens of the frames: each in a word of its frame. Frames have so many
+-- bytes, and stand one below the other from the end of the stack on.
+abbrev pub HasHeldFrames : Pool → ℕ → ℕ → AsmState World → Processor → Type 0
+HasHeldFrames pool frame stack high s =
+    (links : List Link) × (HoldsCells pool high.shared.cells links s × AreHeld frame stack high.frames links)
+
 -- The lines of assembler code in its image. Each line that is always an instruction and no test has an address of its own, a
--- multiple of 4 behind the runtime's words, which stand at the entry, and a word can be fetched there as an instruction. (The test at
--- the head of a loop stands again at the loop's end, and only the first turn comes to that at the head.) On each input on which that
--- code never is at a loss, the image follows the code's machine: for each state that goes on there is a number of instructions behind
--- which the run goes on, memory has the cells of the world, and the same events are told. Where the machine is at such a line,
--- there is such a number behind which the program counter is at the line's address.
+-- multiple of 4 behind the runtime's words, which stand at the entry, and a word can be fetched there as an instruction. (The test
+-- at the head of a loop stands again at the loop's end, and only the first turn comes to that at the head.) On each input on which
+-- that code never is at a loss, the image follows the code's machine: for each state that goes on there is a number of instructions
+-- behind which the run goes on, memory has the cells of the world and the held tokens of the frames, and the same events are told.
+-- Where the machine is at such a line, there is such a number behind which memory has the cells, and the program counter is at the
+-- line's address.
 pub record HasLineAddresses (functions : List Lines) (main : Lines) (constants : Constants) (pool : Pool) (depth entry : ℕ)
     (parts : List Part) : Type 0 where
   pub address : ℕ → ℕ → ℕ
+  pub frame : ℕ
+  pub stack : ℕ
   pub apart : (f k g j : ℕ) → AsmHasOwnLine functions f k → AsmHasOwnLine functions g j → address f k ≡ address g j
       → (f ≡ g) × (k ≡ j)
   pub outside : (f k : ℕ) → AsmHasOwnLine functions f k → entry + 4 * runtime_words ≤ address f k
@@ -66,7 +78,7 @@ pub record HasLineAddresses (functions : List Lines) (main : Lines) (constants :
       → (count : ℕ) × ((s : Processor) × ((run count (start (memory_of parts) entry input) ≡ goes s)
       × ((trace (processor_machine rv32im) count (goes (start (memory_of parts) entry input))
       ≡ trace (asm_machine (primitives constants pool) depth functions) n (asm_start main (first_world pool input)))
-      × HasCells pool high.shared.cells s)))
+      × HasHeldFrames pool frame stack high s)))
 
 -- An image of assembler code, for so many cells and such a depth, for which its memory has room, by where its cells and its
 -- constants stand. On each input on which that code never is at a loss, the processor's machine agrees with the code's; where the

@@ -3,3 +3,4 @@ pub mod Memory
 pub mod Assembled
 pub mod FreeCells
 pub mod Images
+pub mod TokenStates

@@ -11,6 +11,7 @@ ghost use Rattle.rv_cells.specs.Tables.{layout_in};
 ghost use Rattle.kk_back.specs.Memory.{HasMemory};
 ghost use Rattle.kk_back.specs.Images.{IsRunnable, IsImageOfTokened, HasOwnAddresses};
 ghost use Rattle.kk_back.specs.Sizes.{most_text_bytes};
+ghost use Rattle.kk_back.specs.TokenStates.{ComesToTokenStates};
 
 use assembled::assembled;
 use elf_image::Image;
@@ -19,8 +20,9 @@ use kk_counted::Tokened;
 use kk_syntax::StringLiteral;
 use rv_cells::{
     lower_tokened, lowered_tokened_programs_are_short, lowered_tokened_programs_are_well_formed,
-    lowered_tokened_programs_come_to_their_lines, lowered_tokened_programs_have_few_values,
-    lowered_tokened_programs_run_the_same, lowered_tokened_programs_take_few_words,
+    lowered_tokened_programs_come_to_their_lines, lowered_tokened_programs_follow_their_tokens,
+    lowered_tokened_programs_have_few_values, lowered_tokened_programs_run_the_same,
+    lowered_tokened_programs_take_few_words,
 };
 use std::alloc::Global;
 
@@ -43,6 +45,11 @@ use std::alloc::Global;
 /// instruction address of its own behind these words, or more, where its code stands more than once, behind tests of tokens. Where
 /// the program is at such a form, there is such a number behind which the program counter is at an address of a place with this
 /// form's code: where two places have the same code, it is one of them.
+///
+/// The image comes to each state of the program with its tokens too: where its machine is at a form, there is a number of
+/// instructions behind which the same events are told and memory has that state. The chain of held tokens has those of the state,
+/// in their order, each in a word of the frame of its call; each other token is in a cell in hand, which is on no chain; and the
+/// cell of each token has the fields that it had when it was opened.
 pub fn image(
     alloc: Global,
     tokened: &Tokened,
@@ -60,12 +67,15 @@ pub fn image(
         image.entry image.parts) }
     ensures own { IfOk result (λ image. HasOwnAddresses (layout_in tokened.now.shape)
         (tokened_program tokened.now.functions.items texts.now) cells depth image.entry image.parts) }
+    ensures states { IfOk result (λ image. ComesToTokenStates (layout_in tokened.now.shape)
+        (tokened_program tokened.now.functions.items texts.now) cells depth image.entry image.parts) }
 {
     let asm = lower_tokened(alloc, tokened, texts)?;
     lowered_tokened_programs_are_well_formed();
     lowered_tokened_programs_are_short();
     lowered_tokened_programs_run_the_same();
     lowered_tokened_programs_come_to_their_lines();
+    lowered_tokened_programs_follow_their_tokens();
     lowered_tokened_programs_have_few_values();
     lowered_tokened_programs_take_few_words();
     let made = assembled(alloc, &asm, cells, depth)?;

@@ -73,8 +73,8 @@ module _ (program : Lowering) where
       subst (λ k. AreOnChain address slots (chain_of slots (held ∷ helds)) (held_in k f.cells f.held (held_cells fs))) (sym same)
       (subst (λ ks. AreOnChain address slots (chain_of slots (held ∷ helds)) (held_in (length helds) f.cells ks (held_cells fs)))
       (sym one.has.held_is)
-      (links_held address slots (length helds) one.shape.variables one.shape.slots f.cells (chain_of slots helds) (held_cells fs) held
-      one.has.tokens older))
+      (links_held address slots (length helds) one.shape.variables one.shape.slots f.cells (chain_of slots helds) (held_cells fs)
+      held one.has.tokens older))
 
   -- ---- blocks
 

@@ -1,5 +1,5 @@
--- For each state at which the machine with tokens is at a form, the assembler's machine comes to one whose cells and frames have the
--- tokens of that state.
+-- For each state at which the machine with tokens is at a form, the assembler's machine comes to one whose cells and frames have
+-- the tokens of that state.
 use Rattle.std.proofs.Common.{◌≡◌, ℕ, ◌%◌, ◌<◌, List, ◌∷◌, All, subst, ◌⊎◌, inl, inr}
 use Rattle.kk_base.specs.Machines.{state}
 use Rattle.kk_base.proofs.Simulations.{simulates_many}
@@ -67,7 +67,8 @@ module _ (program : Lowering) where
       at_tokens program code inner frames tokens input s fs fills.there fills.at
 
   -- so has each turn that stands for a state
-  goes_on_with : (control : TokenControl) (c : TokenConfiguration) (input : List ℕ) (at_turn : AsmTurn World Ending) (form : Tokened)
+  goes_on_with : (control : TokenControl) (c : TokenConfiguration) (input : List ℕ) (at_turn : AsmTurn World Ending)
+      (form : Tokened)
       (environment : Environment) (joins : List TokenJoin) → MayStandFor program control c input at_turn
       → control ≡ TokenControl.running form environment joins → GoesOnWith c at_turn
   goes_on_with (TokenControl.running code own inner) c input at_turn form environment joins (inl is) same =
@@ -78,7 +79,7 @@ module _ (program : Lowering) where
       )
   goes_on_with (TokenControl.running code own inner) c input at_turn form environment joins (inr is) same =
       let both = subst (HasBoth c.tokens is.spot is.fs) is.heap_is
-      (is.follows, near_tokens code inner c.frames c.tokens input is.spot is.fs is.left is.near) in (
+      (is.at.follows, near_tokens code inner c.frames c.tokens input is.spot is.fs is.left is.at.near) in (
         record { frames = left_at is.left is.spot.frame ∷ is.fs; shared = is.spot.world },
         (is.turn_is, (is.spot.address, (is.spot.owners, (both.0, both.1)))),
       )

@@ -1,5 +1,5 @@
--- When the cells of a program and its frames have the tokens of a state of the machine with tokens; and that the assembler's machine
--- comes to each such state.
+-- When the cells of a program and its frames have the tokens of a state of the machine with tokens; and that the assembler's
+-- machine comes to each such state.
 use Rattle.std.specs.Prelude.{◌≡◌, ◌≢◌, ℕ, ◌%◌, ◌<◌, ◌≤◌, All, Bool, true, false, List, [], ◌∷◌, length, Option, unwrap_or}
 use Rattle.kk_base.specs.Machines.{Machine, mapped, state, trace}
 use Rattle.kk_base.specs.Trace.{Event}
@@ -64,9 +64,9 @@ abbrev pub IsTokenBlock : Bool → List ℕ → Block → Type 0
 IsTokenBlock true fields block = (words : ℕ → Option ℕ) × ((block ≡ kept words) × AreFrom words 2 fields)
 IsTokenBlock false fields block = (words : ℕ → Option ℕ) × ((block ≡ own words) × AreFrom words 2 fields)
 
--- By the address of each name and by what stands at each address, the cells and the held tokens of frames are those of the tokens of a
--- state. Each token has a cell of its own, which is held where its slot is on the chain, and in hand else. It has the fields that it had
--- when it was opened. As many cells are set aside as there are tokens: so no other cell is in hand or held.
+-- By the address of each name and by what stands at each address, the cells and the held tokens of frames are those of the tokens
+-- of a state. Each token has a cell of its own, which is held where its slot is on the chain, and in hand else. It has the fields
+-- that it had when it was opened. As many cells are set aside as there are tokens: so no other cell is in hand or held.
 pub record HasTokens (pool : Pool) (layout : Layout) (address : ℕ → ℕ) (owners : ℕ → Owner) (heap : Heap) (tokens : Tokens)
     (cells : Cells) (held : List HeldCell) : Type 0 where
   pub chain : AreOnChain address tokens.slots tokens.chain held
@@ -94,8 +94,8 @@ tokened_outside setting = mapped events_of (λ end. exited (exit_of end)) (token
 
 -- For each state at which the machine with tokens is at a form, the assembler's machine comes to one that has told the same events,
 -- whose cells hold the heap and the tokens, and whose frames hold the tokens of the chain.
-abbrev pub FollowsTokenStates : (layout : Layout) (code : TokenedProgram) (constants : List (List ℕ)) (functions : List Lines) → Lines
-    → Pool → (depth first : ℕ) → List ℕ → Type 0
+abbrev pub FollowsTokenStates : (layout : Layout) (code : TokenedProgram) (constants : List (List ℕ)) (functions : List Lines)
+    → Lines → Pool → (depth first : ℕ) → List ℕ → Type 0
 FollowsTokenStates layout code constants functions main pool depth first input =
     (n : ℕ) (form : Tokened) (environment : Environment) (joins : List TokenJoin)
     → (token_after token_cost (token_setting_on code pool depth) input n).control ≡ TokenControl.running form environment joins
@@ -108,8 +108,8 @@ FollowsTokenStates layout code constants functions main pool depth first input =
     × HasTokenCells pool layout (token_after token_cost (token_setting_on code pool depth) input n) s.shared.cells
     (held_cells s.frames))))
 
--- the law that the assembler code of a program with tokens comes to the states of the machine with tokens, where its bare form has room
--- for the tokens and each state of the bare run is fit
+-- the law that the assembler code of a program with tokens comes to the states of the machine with tokens, where its bare form has
+-- room for the tokens and each state of the bare run is fit
 abbrev pub FollowTheirTokens : Type 0
 FollowTheirTokens =
     (layout : Layout) (marks : CellMarks) (code : TokenedProgram) (constants : List (List ℕ)) (functions : List Lines)

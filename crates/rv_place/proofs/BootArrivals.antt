@@ -26,12 +26,14 @@ use Rattle.cell_runtime.specs.Sizes.{runtime_words}
 use Rattle.cell_runtime.specs.World.{World, first_world, primitives}
 use Rattle.rv_place.specs.declared.words.Words.{Words}
 use Rattle.rv_place.specs.Addresses.{words_of_lines, forms_of, entry_words}
+use Rattle.rv_place.specs.HeldSlots.{HasHeldTokens}
 use Rattle.rv_place.specs.LineAddresses.{line_address}
 use Rattle.rv_place.specs.Lines.{Map}
 use Rattle.rv_place.specs.Texts.{pool_in, constants_of, map_of}
 use Rattle.rv_place.specs.Images.{first_processor, parts_of, code_in, IsPlacedImage}
 use Rattle.rv_place.specs.ProcessorStates.{most_lines, IsIn, StackAt, links_of, Running, HasCells, StandsFor, NeverStuck, Related}
 use Rattle.rv_place.specs.ProcessorStates.{Passing}
+use Rattle.rv_place.proofs.HeldSlots.{running_tokens}
 use Rattle.rv_place.proofs.LineRanges.{words_split, address_of, line_alone, line_behind, line_within}
 use Rattle.rv_place.proofs.BootAgreements.{silent_instructions}
 use Rattle.rv_place.proofs.BootGround.{stop_address}
@@ -64,11 +66,12 @@ module _ (map : Map) (pool : Pool) (functions : List PlacedLines) (depth stop : 
       → HasCells pool t.shared.cells s
   running_cells t s running = (links_of map running.base t.frames, running.cells)
 
-  -- where the machine goes on, so does what stands for it, and memory has the cells
+  -- where the machine goes on, so does what stands for it, and memory has the cells and the held tokens
   turn_cells : (credit idle : ℕ) (t : PlacedState World) (progress : Progress)
       → StandsFor map pool functions depth stop code parts credit idle (go t) progress
-      → (s : Processor) × ((progress ≡ goes s) × HasCells pool t.shared.cells s)
-  turn_cells credit idle t progress (s, progress_is, saved, left, running) = (s, (progress_is, running_cells t s running))
+      → (s : Processor) × ((progress ≡ goes s) × HasHeldTokens map pool depth t s)
+  turn_cells credit idle t progress (s, progress_is, saved, left, running) =
+      (s, (progress_is, running_tokens map pool functions depth stop code parts t s running))
 
   module _ (f j : ℕ) (shared : World) where
     -- the program counter of a processor that stands for a state at a line
@@ -180,10 +183,11 @@ module _ {cells depth : ℕ} {runtime program : Placed} {words : Words} {text : 
         there.credit there.idle (state machine n start) (run there.count first) there.stands at_line in
         (there.count, (goes_on.0, (goes_on.1.0, (goes_on.1.1.0, (there.events, goes_on.1.1.1)))))
 
-    -- where the machine goes on, the image comes to a moment at which it has told the same events, and memory has the cells
+    -- where the machine goes on, the image comes to a moment at which it has told the same events, and memory has the cells and the
+    -- held tokens
     pub image-follows : (n : ℕ) (t : PlacedState World) → state machine n start ≡ go t
         → (count : ℕ) × ((s : Processor) × ((run count first ≡ goes s)
-        × ((trace (processor_machine rv32im) count (goes first) ≡ trace machine n start) × HasCells pool t.shared.cells s)))
+        × ((trace (processor_machine rv32im) count (goes first) ≡ trace machine n start) × HasHeldTokens map pool depth t s)))
     image-follows n t state_is =
         let there = meets n in
         let goes_on = turn_cells map pool functions depth stop_address (code_in words) (parts_of text runtime)

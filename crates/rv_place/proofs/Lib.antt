@@ -25,6 +25,7 @@ pub mod BootEntry
 pub mod BootRuns
 pub mod BootFits
 pub mod LineRanges
+pub mod HeldSlots
 pub mod BootArrivals
 pub mod Emissions
 pub mod Rests

@@ -9,3 +9,4 @@ pub mod Grounds
 pub mod ProcessorStates
 pub mod Images
 pub mod Emitted
+pub mod HeldSlots

@@ -14,6 +14,7 @@ ghost use Rattle.elf_image.specs.Program.{text_start};
 ghost use Rattle.cell_runtime.specs.Sizes.{runtime_words};
 ghost use Rattle.cell_runtime.specs.World.{World, first_world, primitives};
 ghost use Rattle.rv_place.specs.declared.words.Words.{Words};
+ghost use Rattle.rv_place.specs.HeldSlots.{HasHeldTokens};
 ghost use Rattle.rv_place.specs.Images.{first_processor, IsPlacedImage};
 ghost use Rattle.rv_place.specs.LineAddresses.{line_address};
 ghost use Rattle.rv_place.specs.ProcessorStates.{HasCells, NeverStuck};
@@ -23,9 +24,10 @@ ghost use Rattle.rv_place.specs.Texts.{pool_in, constants_of, map_of};
 ///
 /// Where the machine of the placed form is at a line that is always an instruction, there is a number of instructions behind which
 /// the program counter is at the address of the line, the run goes on there, the image has told the same events, and memory has the
-/// cells of the machine's world. For each state that goes on there is such a number, where the program counter is left open. No
-/// two such lines have the same address, each address is that of a word of the text, and none is among the runtime's words. A run
-/// of the placed form must never come to a state in which it can do nothing more. It is a law, and does nothing.
+/// cells of the machine's world. For each state that goes on there is such a number, where the program counter is left open; there
+/// the chain of held tokens in memory has those that the frames hold, in their order, each in a slot of its frame. No two such
+/// lines have the same address, each address is that of a word of the text, and none is among the runtime's words. A run of the
+/// placed form must never come to a state in which it can do nothing more. It is a law, and does nothing.
 pub fn placed_text_comes_to_its_lines()
     ensures comes { (cells depth : ℕ) (runtime program : Placed) (words : Words) (text input : List ℕ) (main : PlacedLines)
         → IsPlacedImage cells depth runtime program words text main → All (λ byte. byte < 256) input
@@ -52,7 +54,7 @@ pub fn placed_text_comes_to_its_lines()
         × ((trace (processor_machine rv32im) count (goes (first_processor text runtime.memory.size input))
         ≡ trace (placed_machine (primitives (constants_of runtime program) (pool_in cells runtime program)) depth
         (placed_functions program)) n (placed_start main (first_world (pool_in cells runtime program) input)))
-        × HasCells (pool_in cells runtime program) t.shared.cells s))) }
+        × HasHeldTokens (map_of runtime program) (pool_in cells runtime program) depth t s))) }
     ensures apart { (cells depth : ℕ) (runtime program : Placed) (words : Words) (text : List ℕ) (main : PlacedLines)
         → IsPlacedImage cells depth runtime program words text main
         → (f j g i : ℕ) → PlacedHasLine (placed_functions program) f j → PlacedHasLine (placed_functions program) g i

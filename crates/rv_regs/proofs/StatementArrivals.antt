@@ -168,21 +168,22 @@ module _ {H E W : Type 0} (m : Primitives H E W) (depth : ℕ) (asm : List Lines
         ),
       )
 
-  -- what stands for a state that goes on is such a state too, and shares the same
+  -- what stands for a state that goes on is such a state too, shares the same, and has frames that stand
   shares_alike : (s : AsmState H) (t : PlacedTurn H W) → StandsFor {H = H} {W = W} (go s) t
-      → (u : PlacedState H) × ((t ≡ go u) × (u.shared ≡ s.shared))
-  shares_alike s (go t) stands = (t, (refl, sym stands.1))
+      → (u : PlacedState H) × ((t ≡ go u) × ((u.shared ≡ s.shared) × FramesStand u.registers s.frames u.frames))
+  shares_alike s (go t) stands = (t, (refl, (sym stands.1, stands.0)))
   shares_alike s (ended how last) stands = absurd stands
   shares_alike s stuck stands = absurd stands
 
-  -- from the start of the first function, each state is followed by one that shares the same
+  -- from the start of the first function, each state is followed by one that shares the same, and whose frames stand for it
   pub follows_each_state : (main : Lines) (first : H) → ArePlacings asm placed → slice_get asm 0 ≡ Some main
       → main.params ≡ [] → NeverStuck m depth asm (asm_start main first)
       → (placed_main : PlacedLines) × ((slice_get placed 0 ≡ Some placed_main)
       × ((n : ℕ) (s : AsmState H) → state (asm_machine m depth asm) n (asm_start main first) ≡ go s
       → (count : ℕ) × ((t : PlacedState H) × ((state (placed_machine m depth placed) count (placed_start placed_main first) ≡ go t)
       × ((trace (placed_machine m depth placed) count (placed_start placed_main first)
-      ≡ trace (asm_machine m depth asm) n (asm_start main first)) × (t.shared ≡ s.shared))))))
+      ≡ trace (asm_machine m depth asm) n (asm_start main first))
+      × ((t.shared ≡ s.shared) × FramesStand t.registers s.frames t.frames))))))
   follows_each_state main first all e none never =
       let start = reaches_each m depth asm placed all 0 main first e none never in (
         start.0,

@@ -9,7 +9,7 @@ ghost use Rattle.rv_isa.specs.AsmMachine.{AsmState, asm_machine, asm_start};
 ghost use Rattle.rv_isa.specs.PlacedMachine.{PlacedState, placed_machine, placed_start};
 ghost use Rattle.rv_isa.specs.LinePlaces.{AsmIsAt, PlacedIsAt, AsmHasLine, PlacedHasLine, AsmHasOwnLine, PlacedHasOwnLine};
 ghost use Rattle.rv_regs.specs.Valid.{IsValid};
-ghost use Rattle.rv_regs.specs.Relation.{NeverStuck};
+ghost use Rattle.rv_regs.specs.Relation.{FramesStand, NeverStuck};
 ghost use Rattle.rv_regs.specs.StatementLines.{line_of};
 
 use crate::keeps::Execution;
@@ -19,7 +19,8 @@ use crate::keeps::Execution;
 /// Each statement that is always an instruction has a line of its own in the placed form, which is one too, and is no test where
 /// the statement is none. Where the machine of the assembler form comes to the statement, that of the placed form comes to its line,
 /// with the same events before, and their primitives share the same. For each state that goes on it comes to one that has the same
-/// events before and shares the same. It is a law, and does nothing.
+/// events before and shares the same, and whose frames stand for those of that state, with their values and what they hold. It is a
+/// law, and does nothing.
 pub fn placed_forms_come_to_each_line<M: Execution>()
     ensures has { (asm : Asm) (placed : Placed) → IsValid asm placed
         → (f k : ℕ) → AsmHasLine (asm_functions asm) f k
@@ -49,5 +50,6 @@ pub fn placed_forms_come_to_each_line<M: Execution>()
         → (m : ℕ) × ((t : PlacedState M.Shared)
         × ((state (placed_machine M.primitives depth (placed_functions placed)) m (placed_start placed_main shared) ≡ go t)
         × ((trace (placed_machine M.primitives depth (placed_functions placed)) m (placed_start placed_main shared)
-        ≡ trace (asm_machine M.primitives depth (asm_functions asm)) n (asm_start main shared)) × (t.shared ≡ s.shared)))))) }
+        ≡ trace (asm_machine M.primitives depth (asm_functions asm)) n (asm_start main shared))
+        × ((t.shared ≡ s.shared) × FramesStand t.registers s.frames t.frames)))))) }
 {}

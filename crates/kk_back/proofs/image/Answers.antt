@@ -1,6 +1,6 @@
 use Rattle.kk_counted.specs.TokenedForms.{tokened_program}
 use Rattle.rv_isa.specs.AsmCode.{asm_functions, asm_constants}
-use Rattle.kk_back.proofs.ImageMeaning.{placeable_of, is_program, has_memory, text_small, image_is, own_is}
+use Rattle.kk_back.proofs.ImageMeaning.{placeable_of, is_program, has_memory, text_small, image_is, own_is, token_states_are}
 use Rattle.kk_back.proofs.image.Goals as goal
 
 pub assembled-requires-clause-placeable : goal.assembled-requires-clause-placeable
@@ -32,4 +32,8 @@ returns c =
           c.args.depth c.requires.runnable c.in_ok-asm.ensures c.lowered_tokened_programs_are_well_formed.ensures
           c.in_ok-made.made.entry c.in_ok-made.made.parts c.in_ok-made.ensures c.lowered_tokened_programs_run_the_same.ensures
           c.lowered_tokened_programs_come_to_their_lines.ensures;
+      states = token_states_are c.args.tokened.now.shape code (asm_functions c.in_ok-asm.asm) (asm_constants c.in_ok-asm.asm)
+          c.args.cells c.args.depth c.requires.runnable c.in_ok-asm.ensures c.lowered_tokened_programs_are_well_formed.ensures
+          c.in_ok-made.made.entry c.in_ok-made.made.parts c.in_ok-made.ensures c.lowered_tokened_programs_run_the_same.ensures
+          c.lowered_tokened_programs_follow_their_tokens.ensures;
     }
