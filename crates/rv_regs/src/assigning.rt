@@ -12,6 +12,7 @@ use crate::checking::is_placing;
 use crate::liveness::copy_of;
 use crate::local::local_function;
 use crate::modest::is_modest;
+use crate::numbering::with_tokens_first;
 use crate::walk::placed_lines;
 use kk_base::{NoMemory, Text};
 use rv_isa::{Asm, AsmFunction, DataSection, Placed, PlacedFunction};
@@ -26,6 +27,18 @@ fn plain_function(alloc: Global, function: &AsmFunction) -> Result<PlacedFunctio
     Ok(PlacedFunction { params, code })
 }
 
+// The function with values in registers, and its slots in order. Whether it is right, only a check says.
+fn ordered_function(
+    alloc: Global,
+    function: &AsmFunction,
+    is_early: bool,
+) -> Result<Option<PlacedFunction>, NoMemory> {
+    match local_function(alloc, function, is_early)? {
+        Some(placed) => Ok(Some(with_tokens_first(alloc, &placed)?)),
+        None => Ok(None),
+    }
+}
+
 // The function with values in registers, where that is right and modest.
 fn checked_function(
     alloc: Global,
@@ -34,7 +47,7 @@ fn checked_function(
 ) -> Result<Option<PlacedFunction>, NoMemory>
     ensures { IfOk result (λ found. IfSome found (λ placed. IsRight (lines_of function.now) (placed_lines_of placed))) }
 {
-    match local_function(alloc, function, is_early)? {
+    match ordered_function(alloc, function, is_early)? {
         Some(placed) if is_placing(function, &placed) && is_modest(function, &placed) => {
             Ok(Some(placed))
         }

@@ -11,6 +11,7 @@ mod keeps;
 mod liveness;
 mod local;
 mod modest;
+mod numbering;
 mod places;
 mod plans;
 mod reached;
