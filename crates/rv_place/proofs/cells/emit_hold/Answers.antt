@@ -1,5 +1,5 @@
-use Rattle.std.proofs.Common.{◌≡◌, ◌+◌, ◌*◌, Bool, sym, ap, ◌∙◌, arith, subst}
-use Rattle.rv_place.specs.Instructions.{LinksToken, HoldsToken, words_to_name, words_to_hold}
+use Rattle.std.proofs.Common.{◌≡◌, ◌+◌, Bool, arith, subst}
+use Rattle.rv_place.specs.Instructions.{LinksToken, HoldsToken, words_to_hold}
 use Rattle.rv_place.specs.Emitted.{Grew, TokenBy}
 use Rattle.rv_place.proofs.Emissions.{grew_so, grew_then}
 use Rattle.rv_place.proofs.cells.emit_hold.Goals as goal
