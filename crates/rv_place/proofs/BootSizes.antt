@@ -13,7 +13,7 @@ use Rattle.rv_isa.specs.Sizes.{wide_frame}
 use Rattle.rv_isa.specs.PlacedCode.{PlacedLine, does, moves, PlacedLines, placed_functions, placed_constants}
 use Rattle.cell_runtime.specs.Operations.{all_bytes}
 use Rattle.rv_place.specs.declared.words.Words.{Words}
-use Rattle.rv_place.specs.Addresses.{is_silent, is_at_pointer, words_of_action, words_of_line, words_of_lines, words_of_functions, forms_of, words_of_shift}
+use Rattle.rv_place.specs.Addresses.{is_silent, is_at_pointer, words_of_action, words_of_line, words_of_lines, words_of_functions, most_entry_words, forms_of, words_of_shift}
 use Rattle.rv_place.specs.declared.reach.Forms.{Forms}
 use Rattle.rv_place.specs.declared.reach.Reach.{Reach}
 use Rattle.rv_place.proofs.CodeLines.{jump_most, name_most, shift_most, branch_most}
@@ -54,7 +54,7 @@ lines_most : (forms : Forms) (lines : List PlacedLine) → words_of_lines forms 
 lines_most forms [] = omega arith
 lines_most forms (line ∷ lines) = omega (arith, line_most forms line, lines_most forms lines)
 
-functions_most : (jumps : Reach) (functions : List PlacedLines) → words_of_functions jumps functions ≤ 7 * length functions + placed_functions_length functions
+functions_most : (jumps : Reach) (functions : List PlacedLines) → words_of_functions jumps functions ≤ most_entry_words * length functions + placed_functions_length functions
 functions_most jumps [] = omega arith
 functions_most jumps (function ∷ functions) = omega (arith, jump_most jumps, shift_most jumps, to_frame_most jumps, lines_most (forms_of jumps function.code) function.code, functions_most jumps functions)
 

@@ -1,6 +1,6 @@
 -- Where the parts of placed code stand: how many instructions each line is, and the addresses of functions, of labels and of
 -- the runtime's routines.
-use Rattle.std.specs.Prelude.{◌==◌, ◌≡◌, ◌≢◌, ◌⊎◌, ℕ, ◌+◌, ◌-◌, ◌*◌, ◌/◌, List, [], ◌∷◌, Option, Some, None, Bool, true, false}
+use Rattle.std.specs.Prelude.{◌==◌, ◌≡◌, ◌≢◌, ◌⊎◌, ℕ, ◌+◌, ◌-◌, ◌*◌, ◌/◌, ◌^◌, List, [], ◌∷◌, Option, Some, None, Bool, true, false}
 use Rattle.std.specs.Prelude.{◌&&◌, ◌||◌, cond, nat_lt, map}
 use Rattle.std.specs.List.{list_any}
 use Rattle.rv_isa.specs.declared.asm.Action.{Action}
@@ -144,14 +144,20 @@ label_address forms l at (line ∷ lines) = cond (is_label_line l line) (Some at
 abbrev pub reach_of : ℕ → ℕ → Reach
 reach_of limit words = cond (nat_lt words limit) Near Far
 
--- a near branch leads everywhere within fewer instructions than these: its distance of 13 bits, sign-extended, reaches 4 KiB
--- (RISC-V Unprivileged ISA, 2.5)
-abbrev pub branch_words : ℕ
-branch_words = 1024
+-- how many bytes a branch reaches back: its distance has 13 bits, sign-extended (RISC-V Unprivileged ISA, 2.5)
+abbrev pub branch_reach : ℕ
+branch_reach = 2 ^ 12
 
--- a near jump within fewer than these: its distance has 21 bits, and reaches 1 MiB
+-- and a jump, whose distance has 21 bits
+abbrev pub jump_reach : ℕ
+jump_reach = 2 ^ 20
+
+-- a near branch leads everywhere within fewer instructions than these, and a near jump within fewer than those
+abbrev pub branch_words : ℕ
+branch_words = branch_reach / 4
+
 abbrev pub jump_words : ℕ
-jump_words = 262144
+jump_words = jump_reach / 4
 
 -- the forms of a function in a text whose jumps lead so far: where its lines are few instructions with near branches, they are near
 abbrev pub forms_of : Reach → List PlacedLine → Forms
@@ -174,6 +180,10 @@ words_to_frame Wide = 1
 -- saves the way back. A function that takes none has there, for tail calls, what gives a frame back, and as many instructions.
 abbrev pub entry_words : Reach → ℕ
 entry_words jumps = words_to_frame jumps + 2 + words_of_jump jumps + words_of_shift jumps
+
+-- how many instructions it is at most: as many as where frames are wide
+abbrev pub most_entry_words : ℕ
+most_entry_words = entry_words Wide
 
 -- how many of them are the test
 abbrev pub test_words : Reach → ℕ

@@ -14,7 +14,7 @@ use Rattle.cell_heap.specs.Pool.{Pool}
 use Rattle.cell_runtime.specs.Texts.{pool_of, greatest_reach}
 use Rattle.cell_runtime.specs.Operations.{Constants, all_bytes}
 use Rattle.rv_isa.specs.FrameSizes.{frame_size}
-use Rattle.rv_place.specs.Addresses.{reach_of, jump_words, words_of_functions, entries_from, frames_taken, frame_bias}
+use Rattle.rv_place.specs.Addresses.{reach_of, jump_words, most_entry_words, words_of_functions, entries_from, frames_taken, frame_bias}
 use Rattle.rv_place.specs.Lines.{Map, FunctionsAt}
 use Rattle.rv_place.specs.declared.reach.Reach.{Reach}
 use Rattle.rv_place.specs.declared.reach.Reach.TheVariants.{Near, Wide}
@@ -22,10 +22,13 @@ use Rattle.rv_place.specs.declared.words.Words.{Words}
 
 -- ---- what can be placed
 
--- The most instructions of the lines of all functions, each counted at its most and without the functions' entries: so many for
--- each pair of a node of the program and a node of its greatest function.
+-- the most instructions of lines for each pair of a node of the program and a node of its greatest function
+abbrev pub pair_words : ℕ
+pair_words = 128
+
+-- the most instructions of the lines of all functions, each counted at its most and without the functions' entries
 abbrev pub most_text_length : ℕ
-most_text_length = 128 * (greatest_of FunctionNodes * greatest_of ProgramNodes)
+most_text_length = pair_words * (greatest_of FunctionNodes * greatest_of ProgramNodes)
 
 -- the most functions of a program
 abbrev pub most_functions : ℕ
@@ -35,13 +38,17 @@ most_functions = greatest_of Instances
 abbrev pub most_runtime_words : ℕ
 most_runtime_words = 1024
 
--- the most instructions of a text, where each function has an entry of 7 at most
+-- the most instructions of a text
 abbrev pub most_text_words : ℕ
-most_text_words = most_runtime_words + 7 * most_functions + most_text_length
+most_text_words = most_runtime_words + most_entry_words * most_functions + most_text_length
 
--- the most constant bytes of a program: so many for each of its nodes
+-- the most constant bytes for each node of a program
+abbrev pub node_bytes : ℕ
+node_bytes = 1024
+
+-- the most constant bytes of a program
 abbrev pub most_constant_bytes : ℕ
-most_constant_bytes = 1024 * greatest_of ProgramNodes
+most_constant_bytes = node_bytes * greatest_of ProgramNodes
 
 -- no part of a text stands above this address, and memory begins below it
 abbrev pub greatest_address : ℕ
@@ -79,11 +86,11 @@ text_words runtime program = words_of runtime.natives.items + words_of_functions
 abbrev pub text_bytes : Placed → Placed → ℕ
 text_bytes runtime program = 4 * text_words runtime program + length (all_bytes (placed_constants program))
 
--- The most bytes of a text: four for each instruction of the runtime, of the functions' entries, of 7 at most, and of their lines,
+-- The most bytes of a text: four for each instruction of the runtime, of the functions' entries and of their lines, each entry and
 -- each line at its most, and the constants.
 abbrev pub most_bytes : Placed → Placed → ℕ
 most_bytes runtime program =
-    4 * (words_of runtime.natives.items + 7 * length (placed_functions program)
+    4 * (words_of runtime.natives.items + most_entry_words * length (placed_functions program)
     + placed_functions_length (placed_functions program))
     + length (all_bytes (placed_constants program))
 

@@ -1,7 +1,7 @@
 // Where what the code names stands.
 
 ghost use Rattle.std.specs.Prelude.{◌≡◌, ℕ, ◌+◌, ◌*◌, ◌^◌, ◌<◌, ◌≤◌, Bool, Some, slice_get, ◌↔◌, IsTrue};
-ghost use Rattle.rv_place.specs.Addresses.{entry_words, skipped_words};
+ghost use Rattle.rv_place.specs.Addresses.{entry_words, most_entry_words, skipped_words};
 ghost use Rattle.elf_image.specs.Program.{text_start};
 ghost use Rattle.cell_runtime.specs.Lines.{words_of, words_of_line, labels_of};
 ghost use Rattle.rv_place.specs.Texts.{most_runtime_words};
@@ -53,7 +53,7 @@ impl Chart {
     /// callee takes a frame and the other does not, the callee takes one there, or gives it back, behind its test.
     fn skipped_words(&self, frame: bool, takes: bool) -> u32
         ensures words { result ≡ skipped_words self.now.jumps frame takes }
-        ensures few { result ≤ 7 }
+        ensures few { result ≤ most_entry_words }
     {
         if frame == takes {
             self.jumps.entry_words()

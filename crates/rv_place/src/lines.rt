@@ -6,7 +6,7 @@ ghost use Rattle.rv_isa.specs.Costs.{placed_code_length, placed_functions_length
 ghost use Rattle.rv_isa.specs.PlacedCode.{placed_line_of, placed_lines_of};
 ghost use Rattle.rv_isa.specs.PlacedMachine.{is_label_line};
 ghost use Rattle.rv_isa.specs.FrameSizes.{slots_of_operands, slots_of_line, slots_of_lines, slots_of_functions};
-ghost use Rattle.rv_place.specs.Addresses.{is_silent, words_of_action, words_of_line, words_of_lines, words_of_function, words_of_functions, label_address, greatest_frame};
+ghost use Rattle.rv_place.specs.Addresses.{is_silent, words_of_action, words_of_line, words_of_lines, words_of_function, words_of_functions, most_entry_words, label_address, greatest_frame};
 ghost use Rattle.rv_place.specs.Texts.{most_text_length, most_functions, most_runtime_words, greatest_address};
 ghost use Rattle.rv_place.specs.Emitted.{Grew, ActionBy, LineBy, LinesBy, FunctionBy, FunctionsBy};
 
@@ -126,7 +126,7 @@ fn emit_function(
     entry: u32,
     function: &PlacedFunction,
 ) -> Result<(), NoMemory>
-    requires fits { entry + 4 * (7 + placed_code_length (map placed_line_of function.now.code.items)) ≤ greatest_address }
+    requires fits { entry + 4 * (most_entry_words + placed_code_length (map placed_line_of function.now.code.items)) ≤ greatest_address }
     requires short { placed_code_length (map placed_line_of function.now.code.items) ≤ most_text_length }
     requires some_frame { 4 ≤ chart.now.frame }
     requires frame { chart.now.frame ≤ greatest_frame chart.now.jumps }

@@ -2,7 +2,7 @@
 
 ghost use Rattle.std.specs.Prelude.{◌≡◌, ◌≤◌};
 ghost use Rattle.rv_place.specs.Instructions.{words_of_jump, words_of_branch, form_of, words_of_form, words_to_name, words_to_hold};
-ghost use Rattle.rv_place.specs.Addresses.{entry_words, test_words, frame_bias, pointer_slot, is_at_pointer, reach_of, words_of_return, words_of_shift};
+ghost use Rattle.rv_place.specs.Addresses.{entry_words, most_entry_words, test_words, frame_bias, pointer_slot, is_at_pointer, reach_of, words_of_return, words_of_shift};
 ghost use Rattle.rv_place.specs.Addresses.{words_to_frame};
 
 use rv_isa::sizes::REACH_DOWN;
@@ -117,7 +117,7 @@ impl Reach {
     /// How many instructions the entry of a function is.
     pub fn entry_words(self) -> u32
         ensures words { result ≡ entry_words self }
-        ensures few { result ≤ 7 }
+        ensures few { result ≤ most_entry_words }
     {
         self.words_to_frame() + 2 + self.words_of_jump() + self.words_of_shift()
     }

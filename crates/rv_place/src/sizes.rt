@@ -9,7 +9,7 @@ ghost use Rattle.cell_runtime.specs.Operations.{all_bytes};
 ghost use Rattle.cell_runtime.specs.Lines.{words_of};
 ghost use Rattle.rv_place.specs.Instructions.{words_of_operation};
 ghost use Rattle.rv_isa.specs.LinePlaces.{is_copy};
-ghost use Rattle.rv_place.specs.Addresses.{operation_links, action_links, has_slot, needs_frame, takes_frame, is_same_register, stands_there, gives_idly, is_silent, words_of_action, words_of_line, words_of_lines, words_of_function, words_of_functions, forms_of};
+ghost use Rattle.rv_place.specs.Addresses.{operation_links, action_links, has_slot, needs_frame, takes_frame, is_same_register, stands_there, gives_idly, is_silent, words_of_action, words_of_line, words_of_lines, words_of_function, words_of_functions, most_entry_words, forms_of};
 ghost use Rattle.rv_place.specs.Texts.{most_text_length, most_functions, most_runtime_words, most_constant_bytes};
 
 use crate::chart::words_of_native;
@@ -220,17 +220,23 @@ pub fn forms_of(jumps: Reach, items: &[Item]) -> Forms
     }
 }
 
-/// A near branch leads everywhere within fewer instructions than these: a branch reaches 4 KiB.
-pub const BRANCH_WORDS: u32 = 1024;
+/// How many bytes a branch reaches back.
+const BRANCH_REACH: u32 = 1 << 12;
 
-/// A near jump leads everywhere within fewer instructions than these: a jump reaches 1 MiB.
-pub const JUMP_WORDS: u32 = 262_144;
+/// How many bytes a jump reaches back.
+const JUMP_REACH: u32 = 1 << 20;
+
+/// A near branch leads everywhere within fewer instructions than these.
+pub const BRANCH_WORDS: u32 = BRANCH_REACH / 4;
+
+/// A near jump leads everywhere within fewer instructions than these.
+pub const JUMP_WORDS: u32 = JUMP_REACH / 4;
 
 /// How many instructions a function is, its entry included.
 pub fn words_of_function(jumps: Reach, function: &PlacedFunction) -> u32
     requires { placed_code_length (map placed_line_of function.now.code.items) ≤ most_text_length }
     ensures words { result ≡ words_of_function jumps (placed_lines_of function.now) }
-    ensures few { result ≤ 7 + placed_code_length (map placed_line_of function.now.code.items) }
+    ensures few { result ≤ most_entry_words + placed_code_length (map placed_line_of function.now.code.items) }
 {
     let forms = forms_of(jumps, &function.code);
     jumps.entry_words() + words_of_items(forms, &function.code)
@@ -241,7 +247,7 @@ pub fn words_of_functions(jumps: Reach, functions: &[PlacedFunction]) -> u32
     requires functions { length functions.now ≤ most_functions }
     requires short { placed_functions_length (map placed_lines_of functions.now) ≤ most_text_length }
     ensures words { result ≡ words_of_functions jumps (map placed_lines_of functions.now) }
-    ensures few { result ≤ 7 * length functions.now + placed_functions_length (map placed_lines_of functions.now) }
+    ensures few { result ≤ most_entry_words * length functions.now + placed_functions_length (map placed_lines_of functions.now) }
 {
     let mut words = 0;
     for function in functions {
