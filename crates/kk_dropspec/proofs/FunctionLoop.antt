@@ -1,6 +1,7 @@
 -- A loop that changes the functions of a program, one after the other.
-use Rattle.std.proofs.Common.{◌≡◌, ℕ, ◌+◌, ◌<◌, List, [], ◌∷◌, ◌++◌, map, take, length, ◌∙◌}
+use Rattle.std.proofs.Common.{◌≡◌, ℕ, ◌+◌, ◌≤◌, ◌<◌, List, [], ◌∷◌, ◌++◌, map, take, length, ap, ◌∙◌}
 use Rattle.std.proofs.Math.ListN.{get_or}
+use Rattle.std.proofs.Math.Seq.{take_all}
 use Rattle.kk_counted.specs.declared.counted.Counted.{Counted as Program}
 use Rattle.kk_counted.specs.declared.counted.CountedFun.{CountedFun}
 use Rattle.kk_counted.specs.CountedCodes.{Counted}
@@ -8,6 +9,7 @@ use Rattle.kk_counted.specs.CountedForms.{block_code}
 use Rattle.kk_counted.specs.Int32.{HasInt32, AllHaveInt32}
 use Rattle.kk_counted.specs.Programs.{function_of}
 use Rattle.kk_dropspec.specs.Changed.{changed_function}
+use Rattle.kk_dropspec.specs.ChangedPrograms.{IsChangedProgram}
 use Rattle.kk_dropspec.proofs.ChangedFunctions.{function_made}
 use Rattle.kk_dropspec.proofs.NumberForms.{functions_pushed, made_more, one_longer}
 
@@ -44,3 +46,17 @@ one_made_more change functions i start made after fun item within is parameters 
     ),
   ),
 )
+
+-- where all of them are in it, the program is changed
+pub all_changed : (change : Counted → Counted) (functions : List CountedFun) (i : ℕ) (program start made : Program)
+    → length functions ≤ i → functions ≡ program.functions.items → start.shape ≡ program.shape
+    → start.body_nodes ≡ program.body_nodes → start.nodes ≡ program.nodes → AreMadeSoFar change functions i start made
+    → IsChangedProgram change program made
+all_changed change functions i program start made all are shape body_nodes nodes so_far =
+    record {
+      shape = so_far.1.1.0 ∙ shape;
+      functions = so_far.0 ∙ ap (λ some. map (changed_function change) (map function_of some)) (take_all i functions all ∙ are);
+      body_nodes = so_far.1.1.1.0 ∙ body_nodes;
+      nodes = so_far.1.1.1.1.0 ∙ nodes;
+      numbers = so_far.1.1.1.1.1;
+    }

@@ -1,4 +1,5 @@
 pub mod Changed
+pub mod ChangedPrograms
 pub mod Specialised
 pub mod SpecialForms
 pub mod SameRuns

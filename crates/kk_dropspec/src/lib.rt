@@ -2,9 +2,11 @@
 //! laws say that its runs are the same.
 #![tactic(auto)]
 
+mod copies;
 mod law;
 mod special;
 
+pub use copies::{copied_call, copied_form};
 pub use law::{
     specialised_code_can_be_lowered, specialised_code_ends_as_well, specialised_code_has_its_kinds,
     specialised_code_is_spent, specialised_code_opens_by_count, specialised_code_opens_no_more,

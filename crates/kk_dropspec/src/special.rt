@@ -1,11 +1,12 @@
 ghost use Rattle.std.specs.Prelude.{◌≡◌, map, IfOk};
 ghost use Rattle.kk_counted.specs.CountedForms.{arms_of, block_code, last_code, step_move};
-ghost use Rattle.kk_counted.specs.Int32.{IsFormInt32, HasInt32, HaveInt32, AllHaveInt32};
-ghost use Rattle.kk_counted.specs.Programs.{function_of};
-ghost use Rattle.kk_dropspec.specs.Specialised.{special, special_function};
+ghost use Rattle.kk_counted.specs.Int32.{HasInt32, HaveInt32};
+ghost use Rattle.kk_dropspec.specs.ChangedPrograms.{IsChangedProgram};
+ghost use Rattle.kk_dropspec.specs.Specialised.{special};
 ghost use Rattle.kk_dropspec.specs.SpecialForms.{special_move};
 ghost use Rattle.kk_dropspec.specs.Numbers.{IsMoveInt32, AreMovesInt32};
 
+use crate::copies::{copied_call, copied_form};
 use kk_base::NoMemory;
 use kk_counted::{Block, Counted, CountedFun, Last, Step, copied_decisions};
 use kk_syntax::Form;
@@ -17,11 +18,7 @@ use std::alloc::Global;
 ///
 /// The recursion is as deep as the blocks of the code.
 pub fn run(alloc: Global, counted: Counted) -> Result<Counted, NoMemory>
-    ensures shape { IfOk result (λ made. made.shape ≡ counted.shape) }
-    ensures functions { IfOk result (λ made. map function_of made.functions.items ≡ map special_function (map function_of counted.functions.items)) }
-    ensures body_nodes { IfOk result (λ made. made.body_nodes ≡ counted.body_nodes) }
-    ensures nodes { IfOk result (λ made. made.nodes ≡ counted.nodes) }
-    ensures numbers { IfOk result (λ made. AllHaveInt32 (map function_of made.functions.items)) }
+    ensures { IfOk result (λ made. IsChangedProgram special counted made) }
 {
     let (shape, functions, body_nodes, nodes) = counted.parts();
     let mut made = Counted::new(alloc, shape, body_nodes, nodes);
@@ -61,10 +58,7 @@ fn special_step(alloc: Global, step: &Step) -> Result<Step, NoMemory>
     ensures numbers { IfOk result (λ made. IsMoveInt32 (step_move made)) }
 {
     match step {
-        Step::Let(variable, form, arguments) => {
-            numbers_of_forms_are_small(*form);
-            Ok(Step::Let(*variable, *form, Vec::from_slice(alloc, arguments)?))
-        }
+        Step::Let(variable, form, arguments) => copied_form(alloc, *variable, *form, arguments),
         Step::Inside(variable, block) => Ok(Step::Inside(*variable, special_block(alloc, block)?)),
         Step::Read(variable, by, fields) => {
             Ok(Step::Read(*variable, *by, Vec::from_slice(alloc, fields)?))
@@ -86,12 +80,10 @@ fn special_last(alloc: Global, last: &Last) -> Result<Last, NoMemory>
 {
     match last {
         Last::Return(variable) => Ok(Last::Return(*variable)),
-        Last::TailCall(instance, arguments) => {
-            Ok(Last::TailCall(*instance, Vec::from_slice(alloc, arguments)?))
-        }
+        Last::TailCall(instance, arguments) => copied_call(alloc, *instance, arguments),
         Last::Case(variable, decisions, arms) => {
-            let decisions = copied_decisions(alloc, decisions)?;
             let arms = special_arms(alloc, arms)?;
+            let decisions = copied_decisions(alloc, decisions)?;
             Ok(Last::Case(*variable, decisions, arms))
         }
     }
@@ -108,8 +100,3 @@ fn special_arms(alloc: Global, arms: &[Block]) -> Result<Vec<Block>, NoMemory>
     }
     Ok(made)
 }
-
-// The number of a form is one of 32 bits. It is a law, and does nothing.
-fn numbers_of_forms_are_small(form: Form)
-    ensures { IsFormInt32 form }
-{}

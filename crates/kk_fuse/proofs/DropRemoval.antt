@@ -78,13 +78,13 @@ module _ (x : ℕ) (P : Counted → Counted → Type 0)
           let inner = mapped (drop y) (without_drop x rest) less is in
           subst (P (drop y rest)) inner.1.1 (past_drop y rest inner.0 one (later inner.0 inner.1.0))
 
--- what holds with the dup in front, and without the next drop, holds of the fused dup
-pub by_fused : (P : Counted → Type 0) (x : ℕ) (code : Counted) → P (dup x code)
+-- what holds with a dup that cancels with no drop in front, and without the next drop, holds of the fused dup
+pub by_fused : (P : Counted → Type 0) (x : ℕ) (code : Counted) → (without_drop x code ≡ None → P (dup x code))
     → ((less : Counted) → without_drop x code ≡ Some less → P less) → P (fused_dup x code)
 by_fused P x code whole fewer = by_case (without_drop x code) refl
   where
     by_case : (found : Option Counted) → without_drop x code ≡ found → P (fused_dup x code)
-    by_case None is = rw is whole
+    by_case None is = rw is (whole is)
     by_case (Some less) is = rw is (fewer less is)
 
 -- a dup that is gone leaves the code without its next drop
@@ -104,7 +104,7 @@ mutual
   fuse_changes (if_unique x c fields used rest) = opens_unique x c fields used (fuse_changes rest)
   fuse_changes (dup x rest) =
       let later = fuse_changes rest in
-      by_fused (Changes Without (dup x rest)) x (fuse rest) (dups x later) (λ less is. dups_less x (fuse rest) less later is)
+      by_fused (Changes Without (dup x rest)) x (fuse rest) (λ none. dups x later) (λ less is. dups_less x (fuse rest) less later is)
   fuse_changes (drop x rest) = drops x (fuse_changes rest)
 
   fuse_arms_change : (arms : CountedArms) → ArmsChange Without arms (fuse_arms arms)

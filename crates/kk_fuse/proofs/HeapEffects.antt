@@ -1,21 +1,22 @@
 -- What a dup, a drop, a reading and a plain form do to a heap that is sound over what is owned: they are not stuck, and the heap is
 -- sound over what is owned then.
-use Rattle.std.proofs.Common.{◌≡◌, ◌⊎◌, inl, inr, ℕ, ◌+◌, ◌≤◌, ◌==◌, ◌&&◌, Bool, true, false, List, [], ◌∷◌, ◌++◌, length, Option, Some, arith, refl, sym, ap, ◌∙◌, subst}
+use Rattle.std.proofs.Common.{◌≡◌, ◌⊎◌, inl, inr, ℕ, ◌+◌, ◌≤◌, true, false, List, [], ◌∷◌, ◌++◌, length, Option, Some, arith, refl, sym, ap, ◌∙◌, subst}
 use Rattle.std.specs.Prelude.{slice_get}
 use Rattle.kk_syntax.specs.Shapes.{is_among}
-use Rattle.kk_source.specs.State.{Value, place, Cell, Store, Environment}
+use Rattle.kk_source.specs.State.{Value, place, Store, Environment}
 use Rattle.kk_source.specs.Live.{value_of, fields_at, Reached}
 use Rattle.kk_core.specs.CoreMachine.{bind_fields}
-use Rattle.kk_counted.specs.Heaps.{Heap, count_at, cell_at, forwards, dup_value, drop_value}
+use Rattle.kk_counted.specs.Heaps.{Heap, count_at, forwards, dup_value, drop_value}
 use Rattle.kk_counted.specs.CountedMachine.{Named, cell_named}
 use Rattle.kk_counted.specs.References.{refs_of, refs, IsSound, IsCounted, cells_of}
 use Rattle.kk_counted.specs.Spending.{AreEven, AreFresh}
 use Rattle.kk_counted.specs.Keeping.{values_of, HaveNoCells, AreReached, IsCell}
-use Rattle.kk_counted.proofs.CountChanges.{itself, refs_append}
+use Rattle.kk_counted.proofs.CountChanges.{refs_append}
 use Rattle.kk_counted.proofs.Heaps.{positive, ref_here, value_counted, fields_counted, dupped, dropped}
 use Rattle.kk_counted.proofs.Variables.{among_cases, even_refs, refs_of_both, among_refs, fields_fresh, field_past, field_or_old, field_is_one}
 use Rattle.kk_counted.proofs.Reachability.{one_among, same_store, store_fields, reached_field, reached_counted}
 use Rattle.kk_counted.proofs.Looks.{cell_same}
+use Rattle.kk_counted.proofs.Progress.{named_place}
 use Rattle.kk_counted.proofs.SoundSteps.{moved, became_sound, with_variable, landed, reached_bound, fresh_past, counted_if, counted_grows, no_refs, NamedCell, OnNamed, named_cell}
 
 -- a heap by the lent, the readable and the owned variables of the function that runs, and by the values that those that wait own
@@ -205,20 +206,6 @@ module _ (below : List Value) (environment : Environment) (lent : List ℕ) (hea
           (sym (field_past fields named.fields environment y (fresh_past fields lent y owned_x.1 is)) ∙ e)
 
 -- ---- the cell that a variable names
-
-and_both : (a b : Bool) → a ≡ true → b ≡ true → (a && b) ≡ true
-and_both true b first second = second
-and_both false b first second = first
-
-is_equal : (a b : ℕ) → a ≡ b → (a == b) ≡ true
-is_equal a b same = ap (λ n. n == b) same ∙ itself b
-
-named_place : (c count : ℕ) (heap : Heap) (at : ℕ) (cell : Cell) → cell_at heap at ≡ Some cell → cell.made_by ≡ c
-    → length cell.fields ≡ count → cell_named c count heap (place at) ≡ Some (record { at = at; fields = cell.fields })
-named_place c count heap at cell here made many =
-    rw here
-    (rw (and_both (cell.made_by == c) (length cell.fields == count) (is_equal cell.made_by c made)
-    (is_equal (length cell.fields) count many)) refl)
 
 -- the place and the fields of a cell in a store
 abbrev pub named_in : (store : Store) (c count : ℕ) (v : Value) → IsCell store c count v → Named

@@ -5,9 +5,9 @@ use Rattle.kk_syntax.specs.declared.program.Form.{Form}
 use Rattle.kk_syntax.specs.Shapes.{is_among}
 use Rattle.kk_counted.specs.CountedCodes.{Counted, give, tail_call, case, compute, inside, read, open_cell, if_unique, dup, drop, CountedArms, no_arm, arm, CountedFunction, CountedProgram}
 use Rattle.kk_dropspec.proofs.ChangedFunctions.{found_before}
-use Rattle.kk_fuse.specs.Fused.{is_plain, without_drop, fused_dup, fuse, fuse_arms, fused_program}
+use Rattle.kk_fuse.specs.Fused.{is_plain, without_drop, fuse, fuse_arms, fused_program}
 use Rattle.kk_fuse.specs.NoPairs.{HasNoPair, HaveNoPair}
-use Rattle.kk_fuse.proofs.DropRemoval.{by_without}
+use Rattle.kk_fuse.proofs.DropRemoval.{by_without, by_fused}
 
 -- what is mapped and is not there was not there
 unmapped : (put : Counted → Counted) (found : Option Counted) → option_map put found ≡ None → found ≡ None
@@ -84,15 +84,6 @@ less_pairless x =
     (λ y form arguments rest less apart named plain later.
     (blocked_past_compute y form arguments rest less later.0, later.1))
 
--- what holds with a dup that cancels with no drop in front, and without the next drop, holds of the fused dup
-by_cancelled : (P : Counted → Type 0) (x : ℕ) (code : Counted) → (without_drop x code ≡ None → P (dup x code))
-    → ((less : Counted) → without_drop x code ≡ Some less → P less) → P (fused_dup x code)
-by_cancelled P x code whole fewer = by_case (without_drop x code) refl
-  where
-    by_case : (found : Option Counted) → without_drop x code ≡ found → P (fused_dup x code)
-    by_case None is = rw is (whole is)
-    by_case (Some less) is = rw is (fewer less is)
-
 -- fused code has no pair
 mutual
   pairless : (code : Counted) → HasNoPair (fuse code)
@@ -106,7 +97,7 @@ mutual
   pairless (if_unique x c fields used rest) = pairless rest
   pairless (dup x rest) =
       let later = pairless rest in
-      by_cancelled HasNoPair x (fuse rest) (λ none. (none, later)) (λ less is. (less_pairless x (fuse rest) less is).1 later)
+      by_fused HasNoPair x (fuse rest) (λ none. (none, later)) (λ less is. (less_pairless x (fuse rest) less is).1 later)
   pairless (drop x rest) = pairless rest
 
   arms_pairless : (arms : CountedArms) → HaveNoPair (fuse_arms arms)

@@ -39,7 +39,7 @@ mutual
   by_count (if_unique x c fields used rest) by = by_count rest by
   by_count (dup x rest) by =
       let later = by_count rest by in
-      by_fused OpensByCount x (fuse rest) later (λ less is. less_by_count x (fuse rest) less is later)
+      by_fused OpensByCount x (fuse rest) (λ none. later) (λ less is. less_by_count x (fuse rest) less is later)
   by_count (drop x rest) by = by_count rest by
 
   arms_by_count : (arms : CountedArms) → OpenByCount arms → OpenByCount (fuse_arms arms)

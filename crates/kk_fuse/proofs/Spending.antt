@@ -12,7 +12,7 @@ use Rattle.kk_counted.specs.Drafts.{minus}
 use Rattle.kk_counted.specs.Spending.{AreEven, AllAmong, AreFresh, used_by, lent_by, Spends, SpendsParameters}
 use Rattle.kk_counted.proofs.Evenness.{total_append, even_among, even_back, even_same, minus_even, among_front, among_behind}
 use Rattle.kk_counted.proofs.Order.{spends_even}
-use Rattle.kk_counted.proofs.Variables.{among_cases}
+use Rattle.kk_counted.proofs.Variables.{turned, among_first, among_cases}
 use Rattle.kk_dropspec.proofs.ChangedFunctions.{HaveAsMany}
 use Rattle.kk_dropspec.proofs.Spending.{changed_spends_parameters}
 use Rattle.kk_fuse.specs.Fused.{is_plain, without_drop, fuse, fused_function}
@@ -49,14 +49,6 @@ past_first x y ys apart is = by_test (x == y) apart is
     by_test : (t : Bool) → t ≡ false → (t || is_among ys y) ≡ true → is_among ys y ≡ true
     by_test true apart is = absurd (cc)
     by_test false apart is = is
-
--- two variables differ either way round
-turned : (x y : ℕ) → (x == y) ≡ false → (y == x) ≡ false
-turned x y apart = grind arith
-
--- the first variable is among those of its list
-first_there : (x : ℕ) (xs : List ℕ) → is_among (x ∷ xs) x ≡ true
-first_there x xs = grind arith
 
 -- a variable is among variables that are used or kept, and not among those that are used
 kept_there : (used xs : List ℕ) (x : ℕ) → is_among used x ≡ false → is_among (used ++ xs) x ≡ true → is_among xs x ≡ true
@@ -154,7 +146,7 @@ module _ (positions : PositionTable) (functions : List CountedFunction) (lent : 
         there =
             past_first y x s.0 apart
             (even_among owned (y ∷ s.0) x s.1.0
-            (even_among (x ∷ kept) owned x (even_back owned (x ∷ kept) even) (first_there x kept)))
+            (even_among (x ∷ kept) owned x (even_back owned (x ∷ kept) even) (among_first x kept)))
 
         out : AreEven s.0 (x ∷ minus x s.0)
         out = minus_even x s.0 there
@@ -234,7 +226,7 @@ module _ (positions : PositionTable) (functions : List CountedFunction) (lent : 
             kept_there (used_by positions functions form arguments) s.0 x
             (plain_uses positions functions form arguments x plain named)
             (even_among owned (used_by positions functions form arguments ++ s.0) x s.1.0
-            (even_among (x ∷ kept) owned x (even_back owned (x ∷ kept) even) (first_there x kept)))
+            (even_among (x ∷ kept) owned x (even_back owned (x ∷ kept) even) (among_first x kept)))
 
         out : AreEven s.0 (x ∷ minus x s.0)
         out = minus_even x s.0 there

@@ -1,13 +1,14 @@
 ghost use Rattle.std.specs.Prelude.{◌≡◌, ◌+◌, ◌<◌, ◌∷◌, ◌++◌, None, Some, length, map, take, drop, IfNone, IfSome, IfOk, OnOk};
 ghost use Rattle.kk_counted.specs.CountedForms.{arms_of, block_code, last_code, step_move};
-ghost use Rattle.kk_counted.specs.Int32.{IsFormInt32, HasInt32, HaveInt32, AllHaveInt32};
-ghost use Rattle.kk_counted.specs.Programs.{function_of};
+ghost use Rattle.kk_counted.specs.Int32.{HasInt32, HaveInt32};
+ghost use Rattle.kk_dropspec.specs.ChangedPrograms.{IsChangedProgram};
 ghost use Rattle.kk_dropspec.specs.Numbers.{IsMoveInt32, AreMovesInt32};
-ghost use Rattle.kk_fuse.specs.Fused.{is_plain, fuse, fused_function};
+ghost use Rattle.kk_fuse.specs.Fused.{is_plain, fuse};
 ghost use Rattle.kk_fuse.specs.FusedForms.{backwards, drops_it, lets_past, moves_without, put_fused, fused_move, fused_moves};
 
 use kk_base::NoMemory;
 use kk_counted::{Block, Counted, CountedFun, Last, Step, copied_decisions};
+use kk_dropspec::{copied_call, copied_form};
 use kk_syntax::Form;
 use std::alloc::Global;
 
@@ -18,12 +19,7 @@ use std::alloc::Global;
 /// The recursion is as deep as the blocks of the code. At each dup the steps behind it are looked through: it takes time as the
 /// square of the length of a body.
 pub fn run(alloc: Global, counted: Counted) -> Result<Counted, NoMemory>
-    ensures shape { IfOk result (λ made. made.shape ≡ counted.shape) }
-    ensures functions { IfOk result (λ made. map function_of made.functions.items
-        ≡ map fused_function (map function_of counted.functions.items)) }
-    ensures body_nodes { IfOk result (λ made. made.body_nodes ≡ counted.body_nodes) }
-    ensures nodes { IfOk result (λ made. made.nodes ≡ counted.nodes) }
-    ensures numbers { IfOk result (λ made. AllHaveInt32 (map function_of made.functions.items)) }
+    ensures { IfOk result (λ made. IsChangedProgram fuse counted made) }
 {
     let (shape, functions, body_nodes, nodes) = counted.parts();
     let mut made = Counted::new(alloc, shape, body_nodes, nodes);
@@ -67,10 +63,7 @@ fn fused_step(alloc: Global, step: &Step) -> Result<Step, NoMemory>
     ensures numbers { IfOk result (λ made. IsMoveInt32 (step_move made)) }
 {
     match step {
-        Step::Let(variable, form, arguments) => {
-            numbers_of_forms_are_small(*form);
-            Ok(Step::Let(*variable, *form, Vec::from_slice(alloc, arguments)?))
-        }
+        Step::Let(variable, form, arguments) => copied_form(alloc, *variable, *form, arguments),
         Step::Inside(variable, block) => Ok(Step::Inside(*variable, fused_block(alloc, block)?)),
         Step::Read(variable, by, fields) => {
             Ok(Step::Read(*variable, *by, Vec::from_slice(alloc, fields)?))
@@ -97,12 +90,10 @@ fn fused_last(alloc: Global, last: &Last) -> Result<Last, NoMemory>
 {
     match last {
         Last::Return(variable) => Ok(Last::Return(*variable)),
-        Last::TailCall(instance, arguments) => {
-            Ok(Last::TailCall(*instance, Vec::from_slice(alloc, arguments)?))
-        }
+        Last::TailCall(instance, arguments) => copied_call(alloc, *instance, arguments),
         Last::Case(variable, decisions, arms) => {
-            let decisions = copied_decisions(alloc, decisions)?;
             let arms = fused_arms(alloc, arms)?;
+            let decisions = copied_decisions(alloc, decisions)?;
             Ok(Last::Case(*variable, decisions, arms))
         }
     }
@@ -176,15 +167,7 @@ fn next_drop(made: &[Step], variable: u32) -> Option<usize>
 fn drops_it(step: &Step, variable: u32) -> bool
     ensures { result ≡ drops_it variable (step_move step.now) }
 {
-    match step {
-        Step::Drop(other) => *other == variable,
-        Step::Let(_, _, _)
-        | Step::Inside(_, _)
-        | Step::Read(_, _, _)
-        | Step::Open(_, _, _, _)
-        | Step::IfUnique(_, _, _, _)
-        | Step::Dup(_) => false,
-    }
+    matches!(step, Step::Drop(other) if *other == variable)
 }
 
 /// Whether a step may stand between a dup of a variable and the drop that cancels with it.
@@ -211,8 +194,3 @@ fn is_plain(form: Form, arguments: &[u32]) -> bool
         _ => true,
     }
 }
-
-// The number of a form is one of 32 bits. It is a law, and does nothing.
-fn numbers_of_forms_are_small(form: Form)
-    ensures { IsFormInt32 form }
-{}

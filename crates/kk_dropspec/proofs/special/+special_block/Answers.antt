@@ -22,14 +22,14 @@ special_steps-loop-step-preserved t c = (
   moves_pushed _ _ _ c.in_ok-push.ensures.items c.loop-step.invariant.1 c.in_ok-special_step.ensures.numbers,
 )
 
-pub special_last-returns-in_ok-arms-in-Case-clause-same : goal.special_last-returns-in_ok-arms-in-Case-clause-same
-special_last-returns-in_ok-arms-in-Case-clause-same t c =
+pub special_last-returns-in_ok-decisions-in-Case-clause-same : goal.special_last-returns-in_ok-decisions-in-Case-clause-same
+special_last-returns-in_ok-decisions-in-Case-clause-same t c =
     case_special c.args.last.now _ c.in-Case.variable _ c.in_ok-decisions-in-Case.decisions _ c.in_ok-arms-in-Case.arms
     c.in-Case.is refl c.in_ok-decisions-in-Case.ensures.decisions
     (c.in_ok-arms-in-Case.ensures.same ∙ ap (λ arms. map special (map block_code arms)) c.deref-in-Case.ensures.value)
 
-pub special_last-returns-in_ok-arms-in-Case-clause-numbers : goal.special_last-returns-in_ok-arms-in-Case-clause-numbers
-special_last-returns-in_ok-arms-in-Case-clause-numbers t c =
+pub special_last-returns-in_ok-decisions-in-Case-clause-numbers : goal.special_last-returns-in_ok-decisions-in-Case-clause-numbers
+special_last-returns-in_ok-decisions-in-Case-clause-numbers t c =
     case_int32 c.in-Case.variable c.in_ok-decisions-in-Case.decisions c.in_ok-arms-in-Case.arms
     c.in_ok-decisions-in-Case.ensures.numbers c.in_ok-arms-in-Case.ensures.numbers
 

@@ -4,7 +4,7 @@ use Rattle.kk_counted.specs.Int32.{HasInt32}
 use Rattle.kk_counted.specs.InstancePositions.{positions_in}
 use Rattle.kk_counted.specs.declared.form.Block.{Block}
 use Rattle.kk_dropspec.specs.Specialised.{special}
-use Rattle.kk_dropspec.proofs.FunctionLoop.{one_made_more}
+use Rattle.kk_dropspec.proofs.FunctionLoop.{one_made_more, all_changed}
 use Rattle.kk_dropspec.proofs.ChangedFunctions.{next_is_function}
 use Rattle.kk_dropspec.proofs.Lowerability.{special_has_arms}
 use Rattle.kk_dropspec.proofs.Spending.{spends_parameters}
@@ -33,3 +33,12 @@ loop-function-preserved c =
     (subst (λ (body : Block). HasInt32 (block_code body)) (sym (ap (λ fun. fun.body) c.new.ensures)) c.in_ok-body.ensures.numbers)
     c.in_ok-add.ensures.ok c.in_ok-add.ensures.shape c.in_ok-add.ensures.body_nodes c.in_ok-add.ensures.nodes
     c.loop-function.invariant
+
+pub returns : goal.returns
+returns c =
+    all_changed special c.deref-function-items.result.now c.loop-function.function-index c.args.counted c.new-made.result
+    c.loop-function.made c.loop-function-test.false
+    (c.deref-function-items.ensures.value ∙ ap (λ parts. parts.1.items) c.parts-shape.ensures)
+    (c.new-made.ensures.shape ∙ ap (λ parts. parts.0) c.parts-shape.ensures)
+    (c.new-made.ensures.body_nodes ∙ ap (λ parts. parts.2) c.parts-shape.ensures)
+    (c.new-made.ensures.nodes ∙ ap (λ parts. parts.3) c.parts-shape.ensures) c.loop-function.invariant

@@ -42,8 +42,8 @@ pub fused_steps-returns-clause-numbers : goal.fused_steps-returns-clause-numbers
 fused_steps-returns-clause-numbers t c =
     all_int32 c.back.made.items c.reverse.new.self.items c.reverse.ensures.items c.back.invariant.1.0
 
-pub fused_last-returns-in_ok-arms-in-Case-clause-same : goal.fused_last-returns-in_ok-arms-in-Case-clause-same
-fused_last-returns-in_ok-arms-in-Case-clause-same t c =
+pub fused_last-returns-in_ok-decisions-in-Case-clause-same : goal.fused_last-returns-in_ok-decisions-in-Case-clause-same
+fused_last-returns-in_ok-decisions-in-Case-clause-same t c =
     case_fused c.args.last.now _ c.in-Case.variable _ c.in_ok-decisions-in-Case.decisions _ c.in_ok-arms-in-Case.arms
     c.in-Case.is refl c.in_ok-decisions-in-Case.ensures.decisions
     (c.in_ok-arms-in-Case.ensures.same ∙ ap (λ arms. map fuse (map block_code arms)) c.deref-in-Case.ensures.value)
