@@ -412,7 +412,7 @@ inc_lowered = record {
   low = lit≤ tt;
   fewest = λ most below. (let last : 6 < most = below.numbered.1.0.1.1.1.1.1.1.1.0 in omega (arith, last));
   least = lit≤ tt;
-  numbered = omega arith;
+  numbered = (tt, ((((lit< tt, (lit< tt, tt)), (refl, (refl, (refl, tt)))), omega arith), tt));
   has = inc_slots;
 }
 
