@@ -91,15 +91,15 @@ impl Numbers {
     fn item(&self, alloc: Global, item: &Item) -> Result<Item, NoMemory> {
         match item {
             Item::Does {
-                alive,
                 action,
-                args,
                 into,
+                args,
+                alive,
             } => Ok(Item::Does {
-                alive: self.listings(alloc, alive)?,
                 action: *action,
-                args: self.operands(alloc, args)?,
                 into: into.map(|operand| self.operand(operand)),
+                args: self.operands(alloc, args)?,
+                alive: self.listings(alloc, alive)?,
             }),
             Item::Moves { alive, value, way } => Ok(Item::Moves {
                 alive: self.listings(alloc, alive)?,
