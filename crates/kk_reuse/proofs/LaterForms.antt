@@ -1,11 +1,11 @@
 -- What can follow in a block, step by step.
-use Rattle.std.proofs.Common.{◌≡◌, ◌≤◌, ℕ, suc, Bool, true, false, ◌||◌, List, [], ◌∷◌, refl, sym, ap, ◌∙◌, arith}
+use Rattle.std.proofs.Common.{◌≡◌, ◌≤◌, ℕ, suc, Bool, true, false, List, [], ◌∷◌, refl, sym, ap, ◌∙◌, arith}
 use Rattle.std.specs.Prelude.{max, if◌then◌else◌}
 use Rattle.kk_counted.specs.CountedCodes.{Counted, give, tail_call, case, compute, inside, read, open_cell, if_unique, dup, drop, CountedArms, no_arm, arm}
 use Rattle.kk_counted.specs.CountedForms.{Move, computes, runs, reads, opens, opens_unique, dups, drops, put, plug}
 use Rattle.kk_reuse.specs.Following.{makes_cell, may_make, arms_may_make, kept, taken, leaves, arms_leave}
 use Rattle.kk_reuse.specs.PairedForms.{move_may_make, moves_may_make, left_behind}
-use Rattle.kk_reuse.proofs.TokenSpending.{none_left, kept_idle}
+use Rattle.kk_reuse.proofs.TokenSpending.{none_left, kept_idle, or_parts}
 
 -- ---- whether a cell may be made
 
@@ -26,10 +26,6 @@ may_make_plug b (move ∷ moves) last =
 
 -- ---- how many tokens are left
 
-neither : (a b : Bool) → (a || b) ≡ false → (a ≡ false) × (b ≡ false)
-neither true b none = absurd (cc none)
-neither false b none = (refl, none)
-
 -- where no cell may be made any more tokens are not kept
 same_kept : (code : Counted) (n m : ℕ) → may_make true code ≡ false → kept true code n ≡ kept true code m
 same_kept code n m none = ap (λ b. if b then n else 0) none ∙ sym (ap (λ b. if b then m else 0) none)
@@ -42,7 +38,7 @@ arms_same : (arms : CountedArms) (n m : ℕ) → arms_may_make true arms ≡ fal
 arms_same no_arm n m none = refl
 arms_same (arm body rest) n m none =
     let both : (may_make true body ≡ false) × (arms_may_make true rest ≡ false) =
-    neither (may_make true body) (arms_may_make true rest) none in
+    or_parts (may_make true body) (arms_may_make true rest) none in
     ap (λ k. max k (arms_leave true n rest)) (later_same body n m both.0)
     ∙ ap (max (leaves true (kept true body m) body)) (arms_same rest n m both.1)
 
@@ -53,7 +49,7 @@ any_same (tail_call f arguments) n m none = refl
 any_same (case x decisions arms) n m none = arms_same arms n m none
 any_same (compute x form arguments rest) n m none =
     later_same rest (taken form arguments n) (taken form arguments m)
-    (neither (makes_cell form arguments) (may_make true rest) none).1
+    (or_parts (makes_cell form arguments) (may_make true rest) none).1
 any_same (inside x block rest) n m none = by (may_make true rest) refl
   where
     left : Bool → ℕ → ℕ

@@ -1,22 +1,18 @@
 -- Paired code leaves no field as it is, so it leaves only fields that are known.
-use Rattle.std.proofs.Common.{ℕ, zero, suc, ◌+◌, ◌-◌, Bool, true, false, if◌then◌else◌, List, [], ◌∷◌, refl}
+use Rattle.std.proofs.Common.{ℕ, zero, suc, ◌+◌, ◌-◌, Bool, true, false, if◌then◌else◌, List, [], ◌∷◌}
 use Rattle.kk_syntax.specs.declared.program.Form.{Form}
 use Rattle.kk_syntax.specs.declared.program.Form.TheVariants.{Construct, Call}
 use Rattle.kk_counted.specs.CountedCodes.{Counted, give, tail_call, case, compute, inside, read, open_cell, if_unique, dup, drop, CountedArms, no_arm, arm}
-use Rattle.kk_counted.specs.KeptFields.{KnownFields, fields_in, known_opened, forget_slot, forget_variable, forget_variables, KeepsKnown, LeavesKnown, LeaveKnown}
+use Rattle.kk_counted.specs.KeptFields.{KnownFields, fields_in, known_opened, forget_slot, forget_variable, forget_variables, LeavesKnown, LeaveKnown}
 use Rattle.kk_counted.specs.TokenedCodes.{Tokened}
 use Rattle.kk_reuse.specs.Following.{may_make, kept, taken}
 use Rattle.kk_reuse.specs.Pairing.{frees, holds, all_taken_back, nulls, moves_up, filled_up, settled, left_by, paired_form, paired, paired_arms}
+use Rattle.kk_counted.proofs.TokenDraftChanges.{keeps_none}
 use Rattle.kk_reuse.proofs.TakenBack.{HeldAgain, back_so}
 
 -- whatever is known
 abbrev LeavesNone : Tokened → Type 0
 LeavesNone code = (known : List KnownFields) → LeavesKnown known code
-
-keeps_none : (next : ℕ) (fields arguments : List ℕ) → KeepsKnown next [] fields arguments
-keeps_none next fields [] = tt
-keeps_none next [] (argument ∷ arguments) = (refl, keeps_none (suc next) [] arguments)
-keeps_none next (field ∷ fields) (argument ∷ arguments) = (λ is. cc is, keeps_none (suc next) fields arguments)
 
 -- ---- forms that only tokens have, in front of a code
 

@@ -13,9 +13,10 @@ use Rattle.kk_counted.specs.BlockEnds.{HasAnArm, EndsWell, ArmsEndWell}
 use Rattle.kk_counted.specs.TokenWords.{code_words, arms_words, branch_ends, arms_ends, lacking, arms_lacking, holds_tokens}
 use Rattle.kk_counted.specs.TokenWords.{token_words, arms_token_words}
 use Rattle.kk_counted.specs.TokenedWords.{tokened_words, tokened_arms_words}
-use Rattle.kk_reuse.specs.Following.{makes_cell, may_make, arms_may_make, kept, taken, leaves, arms_leave}
+use Rattle.kk_reuse.specs.Following.{makes_cell, may_make, arms_may_make, kept, taken, leaves}
 use Rattle.kk_reuse.specs.Pairing.{frees, holds, all_taken_back, nulls, moves_up, filled_up, settled, left_by, paired_form, paired}
 use Rattle.kk_reuse.specs.Pairing.{paired_arms}
+use Rattle.kk_reuse.proofs.LaterForms.{none_behind}
 use Rattle.kk_reuse.proofs.TakenBack.{HeldAgain, back_so}
 use Rattle.kk_reuse.proofs.TokenRoom.{kept_few, taken_few, leaves_few, slots_many}
 
@@ -113,25 +114,6 @@ settled_all : (code : Counted) → EndsWell true code → (l n : ℕ)
 settled_all code ends l n =
     ap (λ b. tokened_words (if b then paired true l (if b then n else 0) code
     else frees n (paired true l (if b then n else 0) code))) (makes code ends)
-
--- where no cell may be made behind a block, it leaves no token
-mutual
-  none_left : (code : Counted) (n : ℕ) → leaves false (kept false code n) code ≡ 0
-  none_left (give x) n = refl
-  none_left (tail_call f arguments) n = refl
-  none_left (case x decisions arms) n = none_left_by arms (kept false (case x decisions arms) n)
-  none_left (compute x form arguments rest) n =
-      none_left rest (taken form arguments (kept false (compute x form arguments rest) n))
-  none_left (inside x block rest) n = none_left rest (left_by false (kept false (inside x block rest) n) block rest)
-  none_left (read x c fields rest) n = none_left rest (kept false (read x c fields rest) n)
-  none_left (open_cell x c fields used rest) n = none_left rest (suc (kept false (open_cell x c fields used rest) n))
-  none_left (if_unique x c fields used rest) n = none_left rest (suc (kept false (if_unique x c fields used rest) n))
-  none_left (dup x rest) n = none_left rest (kept false (dup x rest) n)
-  none_left (drop x rest) n = none_left rest (kept false (drop x rest) n)
-
-  none_left_by : (arms : CountedArms) (n : ℕ) → arms_leave false n arms ≡ 0
-  none_left_by no_arm n = refl
-  none_left_by (arm body rest) n = omega (arith, none_left body n, none_left_by rest n)
 
 -- ---- the ends of blocks
 
@@ -386,7 +368,7 @@ block_takes block ends fits n t few true =
       leaves_few block true n,
     )
 block_takes block ends fits n t few false =
-    let none : leaves false (kept false block n) block ≡ 0 = none_left block n in
+    let none : leaves false (kept false block n) block ≡ 0 = none_behind block n in
     omega (arith, none, settled_tail block fits (leaves false (kept false block n) block) n t none few)
 
 mutual

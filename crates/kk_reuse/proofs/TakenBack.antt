@@ -1,12 +1,12 @@
 -- Code in front of which tokens are taken back, or stay held.
-use Rattle.std.proofs.Common.{◌≡◌, ℕ, zero, suc, ◌==◌, ◌-◌, ◌&&◌, Bool, true, false, if◌then◌else◌, List, [], ◌∷◌, refl, sym, ap, subst, ◌∙◌, arith}
+use Rattle.std.proofs.Common.{◌≡◌, ℕ, zero, suc, ◌==◌, ◌-◌, ◌&&◌, Bool, true, false, if◌then◌else◌, List, [], ◌∷◌, refl, sym, ap, subst, ◌∙◌}
 use Rattle.std.specs.Prelude.{Option, Some, None, option_map}
-use Rattle.std.proofs.lemmas.Bool.Decides.{nat_tests}
 use Rattle.kk_syntax.specs.declared.program.Form.{Form}
 use Rattle.kk_syntax.specs.declared.program.Form.TheVariants.{Number, Unit as Nothing, ReadByte, PrintText, Unary, Binary, Print, Construct, Call}
 use Rattle.kk_counted.specs.CountedCodes.{Counted, give, tail_call, case, compute, inside, read, open_cell, if_unique, dup, drop}
 use Rattle.kk_counted.specs.TokenedCodes.{Tokened}
 use Rattle.kk_reuse.specs.Following.{may_make, taken}
+use Rattle.kk_counted.proofs.CountChanges.{same, itself}
 use Rattle.kk_reuse.specs.Pairing.{frees, holds, unholds, still_held, or_taken_back, taken_back, all_taken_back, filled_up, paired_form, paired}
 use Rattle.kk_reuse.specs.PairedForms.{is_call, leads_to_call, held_behind, paired_block}
 
@@ -19,9 +19,6 @@ again_found : (y : ℕ) (code : Tokened) (found : Option Tokened) → still_held
     → (less : Tokened) → found ≡ Some less → HeldAgain y code less
 again_found y (Tokened.hold z rest) found is less there = by (y == z) refl (is ∙ there)
   where
-    same : (y z : ℕ) → (y == z) ≡ true → y ≡ z
-    same y z is = grind (arith, nat_tests, is)
-
     by : (b : Bool) → (y == z) ≡ b → (if b then Some rest else None) ≡ Some less → HeldAgain y (Tokened.hold z rest) less
     by true test one =
         let whole : rest ≡ less = cc in
@@ -62,9 +59,6 @@ all_again_held (suc n) xs code =
     ap (taken_back n) (all_again_held n xs (Tokened.hold n code))
     ∙ ap (or_taken_back n (dropped xs (Tokened.hold n code))) (found n xs)
   where
-    itself : (n : ℕ) → (n == n) ≡ true
-    itself n = grind (arith, nat_tests)
-
     found : (n : ℕ) (xs : List ℕ) → still_held n (dropped xs (Tokened.hold n code)) ≡ Some (dropped xs code)
     found n [] = ap (λ b. if b then Some code else None) (itself n)
     found n (x ∷ xs) = ap (option_map (Tokened.drop x)) (found n xs)

@@ -23,18 +23,21 @@ AreBelow slots n = (z : ℕ) → is_among slots z ≡ nat_lt z n
 none_below : (z : ℕ) → nat_lt z 0 ≡ false
 none_below z = grind (arith, nat_tests)
 
+below_next : (n z : ℕ) → ((n == z) || nat_lt z n) ≡ nat_lt z (suc n)
+below_next n z = grind (arith, nat_tests)
+
+last_low : (n : ℕ) → nat_lt n (suc n) ≡ true
+last_low n = grind (arith, nat_tests)
+
+low_next : (n z : ℕ) → nat_lt z n ≡ true → nat_lt z (suc n) ≡ true
+low_next n z low = grind (arith, nat_tests, low)
+
 pub slots_are : (n : ℕ) → AreBelow (slots_below n) n
 slots_are zero z = sym (none_below z)
-slots_are (suc n) z = ap (λ b. (n == z) || b) (slots_are n z) ∙ next n z
-  where
-    next : (n z : ℕ) → ((n == z) || nat_lt z n) ≡ nat_lt z (suc n)
-    next n z = grind (arith, nat_tests)
+slots_are (suc n) z = ap (λ b. (n == z) || b) (slots_are n z) ∙ below_next n z
 
 last_there : (slots : List ℕ) (n : ℕ) → AreBelow slots (suc n) → is_among slots n ≡ true
-last_there slots n below = below n ∙ low n
-  where
-    low : (n : ℕ) → nat_lt n (suc n) ≡ true
-    low n = grind (arith, nat_tests)
+last_there slots n below = below n ∙ last_low n
 
 pub next_free : (slots : List ℕ) (n : ℕ) → AreBelow slots n → is_among slots n ≡ false
 next_free slots n below = below n ∙ high n
@@ -49,10 +52,7 @@ without_last slots n below z = among_without n z slots ∙ (ap (λ b. b && not (
     less n z = grind (arith, nat_tests)
 
 with_next : (slots : List ℕ) (n : ℕ) → AreBelow slots n → AreBelow (n ∷ slots) (suc n)
-with_next slots n below z = ap (λ b. (n == z) || b) (below z) ∙ more n z
-  where
-    more : (n z : ℕ) → ((n == z) || nat_lt z n) ≡ nat_lt z (suc n)
-    more n z = grind (arith, nat_tests)
+with_next slots n below z = ap (λ b. (n == z) || b) (below z) ∙ below_next n z
 
 below_same : (slots others : List ℕ) (n : ℕ) → AreBelow slots n → AreBelow others n → AreSame slots others
 below_same slots others n one other z = one z ∙ sym (other z)
@@ -69,7 +69,7 @@ frees_spend zero left slots code below spends = spends slots below
 frees_spend (suc n) left slots code below spends =
     (refl, (last_there slots n below, frees_spend n left (without (n ∷ []) slots) code (without_last slots n below) spends))
 
-or_parts : (b c : Bool) → (b || c) ≡ false → (b ≡ false) × (c ≡ false)
+pub or_parts : (b c : Bool) → (b || c) ≡ false → (b ≡ false) × (c ≡ false)
 or_parts true c = λ none. cc none
 or_parts false c = λ none. (refl, none)
 
@@ -84,14 +84,8 @@ holds_spend : (n : ℕ) (left slots held : List ℕ) (code : Tokened)
     → SpendsTokens left slots (slots_below n ++ held) code → SpendsTokens left slots held (holds n code)
 holds_spend zero left slots held code each spends = spends
 holds_spend (suc n) left slots held code each spends =
-    holds_spend n left slots held (Tokened.hold n code) (λ z low. each z (lower n z low))
-    ((each n (last n)).0, (among_both (slots_below n) held n (next_free (slots_below n) n (slots_are n)) (each n (last n)).1, spends))
-  where
-    lower : (n z : ℕ) → nat_lt z n ≡ true → nat_lt z (suc n) ≡ true
-    lower n z low = grind (arith, nat_tests, low)
-
-    last : (n : ℕ) → nat_lt n (suc n) ≡ true
-    last n = grind (arith, nat_tests)
+    holds_spend n left slots held (Tokened.hold n code) (λ z low. each z (low_next n z low))
+    ((each n (last_low n)).0, (among_both (slots_below n) held n (next_free (slots_below n) n (slots_are n)) (each n (last_low n)).1, spends))
 
 -- a token that is taken back and held again can stay held
 spends_still : (y : ℕ) (left unspent held : List ℕ) (code less : Tokened) → HeldAgain y code less
@@ -107,15 +101,9 @@ back_spends zero left slots code each spends = spends
 back_spends (suc n) left slots code each spends =
     let held = n ∷ (slots_below n ++ []) in
     let back : SpendsTokens left slots held (Tokened.unhold n (all_taken_back n code))
-    = (slots_below n ++ [], (refl, (each n (last n), back_spends n left slots code (λ z low. each z (lower n z low)) spends))) in
+    = (slots_below n ++ [], (refl, (each n (last_low n), back_spends n left slots code (λ z low. each z (low_next n z low)) spends))) in
     back_so (SpendsTokens left slots held) n (all_taken_back n code) back
     (λ less again. spends_still n left slots held (all_taken_back n code) less again back)
-  where
-    lower : (n z : ℕ) → nat_lt z n ≡ true → nat_lt z (suc n) ≡ true
-    lower n z low = grind (arith, nat_tests, low)
-
-    last : (n : ℕ) → nat_lt n (suc n) ≡ true
-    last n = grind (arith, nat_tests)
 
 -- slots of which those from a number on have moved up
 abbrev AreMoved : List ℕ → ℕ → ℕ → ℕ → Type 0

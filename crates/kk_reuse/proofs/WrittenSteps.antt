@@ -21,10 +21,11 @@ use Rattle.kk_counted.specs.declared.tokened.TokenedStep.TheVariants as OfStep
 use Rattle.kk_counted.specs.CountedCodes.{Counted}
 use Rattle.kk_counted.specs.CountedForms.{Move, computes, runs, reads, opens, opens_unique, dups, drops, put, plug, block_code, last_code, step_move, last_step, step_step, block_step}
 use Rattle.kk_counted.specs.Programs.{function_of, program_of}
+use Rattle.kk_counted.specs.TokenDrafts.{fills_with}
 use Rattle.kk_counted.specs.TokenedCodes.{Tokened, TokenedFunction, TokenedProgram}
 use Rattle.kk_counted.specs.TokenedForms.{TokenedMove, put_tokened, put_steps, tokened_code, tokened_last_code, tokened_move, tokened_function, tokened_program}
 use Rattle.kk_counted.proofs.FormViews.{block_is, step_read, step_open, step_dup, step_drop}
-use Rattle.kk_counted.proofs.TokenedViews.{tokened_block_is, step_pushed, let_step, inside_step, dup_step, drop_step, fill_step}
+use Rattle.kk_counted.proofs.TokenedViews.{tokened_block_is, step_pushed, let_step, inside_step, dup_step, drop_step}
 use Rattle.kk_reuse.specs.Following.{may_make, kept, leaves}
 use Rattle.kk_reuse.specs.Pairing.{slots_below, frees, paired_form, paired, paired_function, paired_program}
 use Rattle.kk_reuse.specs.PairedForms.{is_call, move_is_call, move_is_drop, lead_to_call, leads_to_call, stay_held, held_before, held_behind}
@@ -52,27 +53,22 @@ let_written before after x form arguments others given grown same none rest =
     ∙ ap (λ xs. put_steps before (Tokened.compute x form xs others.items rest)) same
     ∙ ap (λ xs. put_steps before (Tokened.compute x form given xs rest)) none
 
-filled : (n slot x c first d : ℕ) (form : Form) (given arguments : List ℕ) (rest : Tokened) → n ≡ slot + 1 → form ≡ Construct c
-    → 1 ≤ length given → first ≡ get_or given 0 d → arguments ≡ drop 1 given
-    → Tokened.fill x slot c first arguments [] (slots_below slot) rest ≡ paired_form n x form given rest
-filled n slot x c first d form [] arguments rest one is some here others = absurd (omega (arith, some))
-filled n slot x c first d form (y ∷ ys) arguments rest one is some here others =
-    ap (λ z. Tokened.fill x slot c z arguments [] (slots_below slot) rest) here
-    ∙ ap (λ zs. Tokened.fill x slot c y zs [] (slots_below slot) rest) others
-    ∙ sym (ap (λ k. paired_form k x form (y ∷ ys) rest) {x = n} {y = suc slot} (omega (arith, one))
+filled : (n slot x c : ℕ) (form : Form) (given : List ℕ) (rest : Tokened) → n ≡ slot + 1 → form ≡ Construct c → 1 ≤ length given
+    → put_tokened (fills_with x slot c given [] (slots_below slot)) rest ≡ paired_form n x form given rest
+filled n slot x c form [] rest one is some = absurd (omega (arith, some))
+filled n slot x c form (y ∷ ys) rest one is some =
+    sym (ap (λ k. paired_form k x form (y ∷ ys) rest) {x = n} {y = suc slot} (omega (arith, one))
     ∙ ap (λ f. paired_form (suc slot) x f (y ∷ ys) rest) is)
 
-pub fill_written : (before after : List TokenedStep) (n slot x c first d : ℕ) (form : Form) (arguments kept others : Vec ℕ)
-    (given : List ℕ)
-    → after ≡ before ++ OfStep.Fill x slot c first arguments kept others ∷ [] → n ≡ slot + 1 → form ≡ Construct c
-    → 1 ≤ length given → first ≡ get_or given 0 d → arguments.items ≡ drop 1 given → kept.items ≡ []
-    → others.items ≡ slots_below slot
+pub fill_written : (before after : List TokenedStep) (n slot x c : ℕ) (form : Form) (made : TokenedStep) (given kept others : List ℕ)
+    → after ≡ before ++ made ∷ [] → n ≡ slot + 1 → form ≡ Construct c → 1 ≤ length given → kept ≡ []
+    → others ≡ slots_below slot → tokened_move made ≡ fills_with x slot c given kept others
     → (rest : Tokened) → put_steps after rest ≡ put_steps before (paired_form n x form given rest)
-fill_written before after n slot x c first d form arguments kept others given grown one is some here same none all rest =
-    step_pushed before after _ _ grown (fill_step x slot c first arguments kept others) rest
-    ∙ ap (λ xs. put_steps before (Tokened.fill x slot c first arguments.items xs others.items rest)) none
-    ∙ ap (λ xs. put_steps before (Tokened.fill x slot c first arguments.items [] xs rest)) all
-    ∙ ap (put_steps before) (filled n slot x c first d form given arguments.items rest one is some here same)
+fill_written before after n slot x c form made given kept others grown one is some none all same rest =
+    step_pushed before after made _ grown same rest
+    ∙ ap (λ xs. put_steps before (put_tokened (fills_with x slot c given xs others) rest)) none
+    ∙ ap (λ xs. put_steps before (put_tokened (fills_with x slot c given [] xs) rest)) all
+    ∙ ap (put_steps before) (filled n slot x c form given rest one is some)
 
 -- a form that is no call is written as it is paired
 pub form_written : (before after : List TokenedStep) (already stays : Bool) (n x : ℕ) (form : Form) (given : List ℕ)

@@ -32,15 +32,7 @@ fn step_is_call(step: &Step) -> bool
 fn is_drop(step: &Step) -> bool
     ensures { result ≡ move_is_drop (step_move step.now) }
 {
-    match step {
-        Step::Drop(_) => true,
-        Step::Let(_, _, _)
-        | Step::Inside(_, _)
-        | Step::Read(_, _, _)
-        | Step::Open(_, _, _, _)
-        | Step::IfUnique(_, _, _, _)
-        | Step::Dup(_) => false,
-    }
+    matches!(step, Step::Drop(_))
 }
 
 /// Whether the first of some steps is a call, behind drops.

@@ -2,6 +2,7 @@
 
 ghost use Rattle.std.specs.Prelude.{◌≡◌, [], map, false, if◌then◌else◌, OnOk, IfOk};
 ghost use Rattle.kk_counted.specs.CountedForms.{arms_of, block_code, last_code, runs, step_move};
+ghost use Rattle.kk_counted.specs.TokenDrafts.{opens_with};
 ghost use Rattle.kk_counted.specs.TokenedCodes.{Tokened};
 ghost use Rattle.kk_counted.specs.TokenedForms.{TokenedMove, tokened_arms, tokened_code, tokened_last_code, tokened_move, put_steps};
 ghost use Rattle.kk_reuse.specs.Pairing.{frees, paired, paired_arms};
@@ -11,7 +12,10 @@ use crate::calls::stay_held;
 use crate::following::{last_may_make, leaves, may_make, one_more, steps_may_make, taken};
 use crate::slots::{fill_up, free_all, hold_all, slots_below, unhold_all};
 use kk_base::NoMemory;
-use kk_counted::{Block, Last, Step, TokenedBlock, TokenedLast, TokenedStep, copied_decisions};
+use kk_counted::{
+    Block, Last, Step, TokenedBlock, TokenedLast, TokenedStep, copied_decisions, filling_step,
+    opening_step,
+};
 use kk_syntax::Form;
 use std::alloc::Global;
 
@@ -101,13 +105,13 @@ fn paired_step(
         }
         Step::Open(variable, constructor, fields, used) => {
             let more = one_more(tokens)?;
-            let open = opening(alloc, *variable, *constructor, fields, used, tokens)?;
+            let open = opening(alloc, *variable, *constructor, fields, used, tokens, false)?;
             steps.push(open)?;
             Ok(more)
         }
         Step::IfUnique(variable, constructor, fields, used) => {
             let more = one_more(tokens)?;
-            let open = opening_by_count(alloc, *variable, *constructor, fields, used, tokens)?;
+            let open = opening(alloc, *variable, *constructor, fields, used, tokens, true)?;
             steps.push(open)?;
             Ok(more)
         }
@@ -143,7 +147,7 @@ fn reading(
     })
 }
 
-/// A step that opens a cell.
+/// A step that opens a cell, by its count or not.
 fn opening(
     alloc: Global,
     variable: u32,
@@ -151,40 +155,13 @@ fn opening(
     fields: &[u32],
     used: &[u32],
     slot: u32,
+    by_count: bool,
 ) -> Result<TokenedStep, NoMemory>
-    ensures { IfOk result (λ made. tokened_move made ≡ TokenedMove.opens variable constructor fields.now used.now slot) }
+    ensures { IfOk result (λ made. tokened_move made ≡ opens_with by_count variable constructor fields.now used.now slot) }
 {
     let fields = Vec::from_slice(alloc, fields)?;
     let used = Vec::from_slice(alloc, used)?;
-    Ok(TokenedStep::Open {
-        variable,
-        constructor,
-        fields,
-        used,
-        slot,
-    })
-}
-
-/// A step that opens a cell by its count.
-fn opening_by_count(
-    alloc: Global,
-    variable: u32,
-    constructor: u32,
-    fields: &[u32],
-    used: &[u32],
-    slot: u32,
-) -> Result<TokenedStep, NoMemory>
-    ensures { IfOk result (λ made. tokened_move made ≡ TokenedMove.opens_unique variable constructor fields.now used.now slot) }
-{
-    let fields = Vec::from_slice(alloc, fields)?;
-    let used = Vec::from_slice(alloc, used)?;
-    Ok(TokenedStep::IfUnique {
-        variable,
-        constructor,
-        fields,
-        used,
-        slot,
-    })
+    Ok(opening_step(variable, constructor, fields, used, slot, by_count))
 }
 
 /// Adds a form on variables with so many tokens. A construction with fields takes the newest one. At a call all are held.
@@ -200,20 +177,12 @@ fn paired_form(
     ensures { OnOk result ((rest : Tokened) → put_steps steps.new.items rest ≡ put_steps steps.old.items (written_form held.already held.stays tokens variable form arguments.now rest)) }
 {
     match (form, arguments) {
-        (Form::Construct(constructor), [first, others @ ..]) if tokens > 0 => {
+        (Form::Construct(constructor), [_, ..]) if tokens > 0 => {
             let slot = tokens - 1;
-            let arguments = Vec::from_slice(alloc, others)?;
             let kept = Vec::new(alloc);
             let others = slots_below(alloc, slot)?;
-            steps.push(TokenedStep::Fill {
-                variable,
-                slot,
-                constructor,
-                first: *first,
-                arguments,
-                kept,
-                others,
-            })?;
+            let fill = filling_step(alloc, variable, slot, constructor, arguments, kept, others)?;
+            steps.push(fill)?;
             Ok(())
         }
         (Form::Call(_), _) => {
