@@ -1,20 +1,13 @@
 -- Respecialised code leaves all fields that are known.
-use Rattle.std.proofs.Common.{◌≡◌, ◌==◌, ◌||◌, ℕ, suc, Bool, true, false, List, [], ◌∷◌, Some, refl, arith}
+use Rattle.std.proofs.Common.{◌≡◌, ◌==◌, ℕ, suc, Bool, true, false, List, [], ◌∷◌, Some, refl, arith}
 use Rattle.std.specs.Prelude.{if◌then◌else◌, slice_get}
 use Rattle.kk_syntax.specs.Shapes.{is_among}
 use Rattle.kk_counted.specs.KeptFields.{KnownFields, fields_in, forget_slot, forget_variable, forget_variables, known_opened}
 use Rattle.kk_counted.specs.TokenedCodes.{Tokened, TokenedArms, TokenedFunction, TokenedProgram}
+use Rattle.kk_counted.proofs.Variables.{among_later}
 use Rattle.kk_respec.specs.AllKnown.{KeepsAllKnown, LeavesAllKnown, LeaveAllKnown}
 use Rattle.kk_respec.specs.Respecialised.{kept_from, respec, respec_arms, respecialised_program}
 use Rattle.kk_respec.proofs.Forms.{each_function}
-
--- a position that is among some is among them with one more in front
-among_more : (next at : ℕ) (kept : List ℕ) → is_among kept at ≡ true → is_among (next ∷ kept) at ≡ true
-among_more next at kept is = by_test (next == at)
-  where
-    by_test : (t : Bool) → (t || is_among kept at) ≡ true
-    by_test true = refl
-    by_test false = is
 
 -- a list with the kept positions from there on keeps all that is known
 keeps_all : (next : ℕ) (kept fields arguments : List ℕ)
@@ -41,7 +34,7 @@ keeps_all next kept (field ∷ fields) (argument ∷ arguments) has = (
 
     further : (t : Bool) (at : ℕ) → is_among (kept_from (suc next) fields arguments) at ≡ true
         → is_among (if t then next ∷ kept_from (suc next) fields arguments else kept_from (suc next) fields arguments) at ≡ true
-    further true at among = among_more next at (kept_from (suc next) fields arguments) among
+    further true at among = among_later next at (kept_from (suc next) fields arguments) among
     further false at among = among
 
 -- respecialised code leaves all that is known

@@ -12,7 +12,7 @@ completed-requires-clause-marked c =
     let opened = unpacked_same true _ 0 2 _ _ _ c.in-Ok.ensures.ok cell c.in_ok-cell.ensures.owed.1 in
     let numbered = computed_same (Number (pos 9)) _ [] _ _ _ c.in-Ok-plain.ensures.ok opened c.new.ensures.items in
     let number = c.in-Ok-plain.ensures.owed.1 ∙ ap (λ d. d.next) opened in
-    let second = only_taken _ c.in-Some.second.variable 2 (sym (ap (λ d. fields_given d 0 2) cell) ∙ (sym c.in-Ok.ensures.debts ∙ c.in-Some.ensures.last)) in
+    let second = only_taken _ c.in-Some.second.variable 2 (sym (ap (λ d. fields_given d 0 2) cell) ∙ (sym c.in-Ok.ensures.given.0 ∙ c.in-Some.ensures.last)) in
     let built = computed_same (Construct 0) _ (3 ∷ 2 ∷ []) _ _ _ c.in_ok-built.ensures.ok numbered
     (ap (λ x. x ∷ c.in-Some.second.variable ∷ []) number ∙ ap (λ x. 3 ∷ x ∷ []) second) in
     ended_marked (counted_of c.filled.new.emitter) _ c.in_ok-built.built.variable 4 built
