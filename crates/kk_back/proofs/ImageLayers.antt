@@ -31,6 +31,7 @@ use Rattle.rv_isa.proofs.ValueBounds.{all_values_below}
 use Rattle.elf_image.specs.Parts.{memory_of}
 use Rattle.elf_image.specs.Program.{IsProgramImage, program_parts, text_of, memory_size_of, text_start, memory_start}
 use Rattle.elf_image.specs.declared.part.Part.{Part}
+use Rattle.rv_isa.specs.Numbers.{cell_size}
 use Rattle.cell_heap.specs.Pool.{Pool}
 use Rattle.cell_heap.specs.ProgramMemory.{HoldsCells}
 use Rattle.cell_runtime.specs.Sizes.{runtime_words}
