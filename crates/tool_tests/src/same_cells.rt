@@ -377,33 +377,37 @@ fn long_lists_are_dropped_at_once(rt: HostRuntime) -> Result<(), Fail> {
     Ok(())
 }
 
-/// A cell with another count, another constructor or another field is not found in the image.
-#[test]
-fn other_cells_are_told_apart(rt: HostRuntime) -> Result<(), Fail> {
-    let compiled = compile_text(rt.alloc(), REVERSE)?;
+/// How many cells both have at the end of a run, where they have the same: then with another count, with another constructor and with
+/// another field of the slow machine's newest cell.
+fn counted_otherwise(alloc: Global, compiled: &Compiled) -> Result<[Option<usize>; 4], Fail> {
     let texts = &compiled.accepted.instances.texts;
-    let file = file_of(rt.alloc(), REVERSE, 2, DEPTH)?;
+    let mut slow = TokenMachine::new(alloc, &compiled.tokened, texts, 2, DEPTH)?;
+    let file = file_of(alloc, compiled.text, 2, DEPTH)?;
     let shapes = compiled.tokened.shape.constructors();
-    let mut walk = Walk::new(rt.alloc(), shapes, file.as_slice(), 2, DEPTH)?;
-    let mut slow = TokenMachine::new(rt.alloc(), &compiled.tokened, texts, 2, DEPTH)?;
+    let mut walk = Walk::new(alloc, shapes, file.as_slice(), 2, DEPTH)?;
     walk.run(&mut slow)?;
     let same = walk.counted(&slow)?;
-    assert_eq!(rt; same, Some(2));
     let cell = slow.heap.cells.last_mut().ok_or("no cell")?;
     let made_by = cell.made_by;
     cell.count = 2;
     let counted = walk.counted(&slow)?;
-    assert_eq!(rt; counted, None);
     let cell = slow.heap.cells.last_mut().ok_or("no cell")?;
     cell.count = 1;
     cell.made_by = 0;
     let made = walk.counted(&slow)?;
-    assert_eq!(rt; made, None);
     let cell = slow.heap.cells.last_mut().ok_or("no cell")?;
     cell.made_by = made_by;
     let field = cell.fields.first_mut().ok_or("no field")?;
     *field = Value::Integer(9);
     let filled = walk.counted(&slow)?;
-    assert_eq!(rt; filled, None);
+    Ok([same, counted, made, filled])
+}
+
+/// A cell with another count, another constructor or another field is not found in the image.
+#[test]
+fn other_cells_are_told_apart(rt: HostRuntime) -> Result<(), Fail> {
+    let compiled = compile_text(rt.alloc(), REVERSE)?;
+    let counts = counted_otherwise(rt.alloc(), &compiled)?;
+    assert_eq!(rt; counts, [Some(2), None, None, None]);
     Ok(())
 }
