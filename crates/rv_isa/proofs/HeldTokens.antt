@@ -1,5 +1,5 @@
 -- Lines before code before which tokens are held, or none are.
-use Rattle.std.proofs.Common.{◌≡◌, ◌==◌, ◌⊎◌, ℕ, List, [], ◌∷◌, Some, None, false, true, inl, inr, refl, sym, ◌∙◌, ap, subst}
+use Rattle.std.proofs.Common.{◌≡◌, ◌==◌, ◌||◌, ◌⊎◌, ℕ, List, [], ◌∷◌, Some, None, false, true, inl, inr, refl, sym, ◌∙◌, ap, subst}
 use Rattle.std.specs.List.{AllByRecursion}
 use Rattle.std.proofs.lemmas.Bool.{eqb-true, or_cases, false≢true, false_from_ne_true}
 use Rattle.rv_isa.specs.declared.asm.Action.{Action}
@@ -32,24 +32,35 @@ none_held (line ∷ rest) none = none_held_before line rest none.0 (none_held re
 
 -- ---- code before which tokens are held
 
-abbrev hold_line : Action → ℕ → Line
-hold_line action v = record { action = action; args = v ∷ []; into = None }
+abbrev hold_line : ℕ → Line
+hold_line v = record { action = Hold; args = v ∷ v ∷ []; into = None }
+
+abbrev unhold_line : ℕ → Line
+unhold_line v = record { action = Unhold; args = v ∷ []; into = Some v }
 
 -- the value of a Hold or an Unhold is none of the others
-others_left : (v : ℕ) (held : List ℕ) → is_among v held ≡ false → (u : ℕ) → is_among u held ≡ true → (is_among u (v ∷ []) ≡ false) × (is_written None u ≡ false)
+other_value : (v : ℕ) (held : List ℕ) → is_among v held ≡ false → (u : ℕ) → is_among u held ≡ true → (v == u) ≡ false
+other_value v held apart u there =
+    false_from_ne_true (v == u) (λ same. false≢true (sym apart ∙ ap (λ w. is_among w held) (eqb-true v u same) ∙ there))
+
+others_left : (v : ℕ) (held : List ℕ) → is_among v held ≡ false → (u : ℕ) → is_among u held ≡ true
+    → (is_among u (v ∷ v ∷ []) ≡ false) × (is_written None u ≡ false)
 others_left v held apart u there =
-    (false_from_ne_true (is_among u (v ∷ [])) (λ same. false≢true (sym apart ∙ ap (λ w. is_among w held) (one (or_cases (v == u) false same)) ∙ there)), refl)
-  where
-    one : ((v == u) ≡ true) ⊎ (false ≡ true) → v ≡ u
-    one (inl same) = eqb-true v u same
-    one (inr none) = absurd (false≢true none)
+    let other = other_value v held apart u there in
+    (ap (λ a. a || (a || false)) other, refl)
+
+others_kept : (v : ℕ) (held : List ℕ) → is_among v held ≡ false → (u : ℕ) → is_among u held ≡ true
+    → (is_among u (v ∷ []) ≡ false) × (is_written (Some v) u ≡ false)
+others_kept v held apart u there =
+    let other = other_value v held apart u there in
+    (ap (λ a. a || false) other, other)
 
 -- a value is held, and one is taken back
-pub held_from : (v : ℕ) (held : List ℕ) (rest : List Line) → is_among v held ≡ false → AreTokensHeld (v ∷ held) rest → AreTokensHeld held (hold_line Hold v ∷ rest)
+pub held_from : (v : ℕ) (held : List ℕ) (rest : List Line) → is_among v held ≡ false → AreTokensHeld (v ∷ held) rest → AreTokensHeld held (hold_line v ∷ rest)
 held_from v held rest apart more = (v ∷ held, (refl, (λ u before behind. others_left v held apart u before, more)))
 
-pub held_to : (v : ℕ) (held : List ℕ) (rest : List Line) → is_among v held ≡ false → AreTokensHeld held rest → AreTokensHeld (v ∷ held) (hold_line Unhold v ∷ rest)
-held_to v held rest apart more = (held, (refl, (λ u before behind. others_left v held apart u behind, more)))
+pub held_to : (v : ℕ) (held : List ℕ) (rest : List Line) → is_among v held ≡ false → AreTokensHeld held rest → AreTokensHeld (v ∷ held) (unhold_line v ∷ rest)
+held_to v held rest apart more = (held, (refl, (λ u before behind. others_kept v held apart u behind, more)))
 
 held_changed : (action : Action) (args held : List ℕ) → HoldsNone action → goes_straight_on action ≡ true → ChangesHeld action args held held
 held_changed Hold args held none straight = absurd none
@@ -80,16 +91,16 @@ abbrev result : Line
 result = record { action = Return; args = 2 ∷ []; into = None }
 
 abbrev request : List Line
-request = line (Routine RoutineName.Take) [] 2 ∷ hold_line Unhold 0 ∷ result ∷ []
+request = line (Routine RoutineName.Take) [] 2 ∷ unhold_line 0 ∷ result ∷ []
 
 abbrev call : List Line
 call = line (Call 1) [] 1 ∷ request
 
-held_example : AreTokensHeld [] (line (Compute (Li 0)) [] 0 ∷ hold_line Hold 0 ∷ call)
+held_example : AreTokensHeld [] (line (Compute (Li 0)) [] 0 ∷ hold_line 0 ∷ call)
 held_example =
-    none_held_before (line (Compute (Li 0)) [] 0) (hold_line Hold 0 ∷ call) tt
+    none_held_before (line (Compute (Li 0)) [] 0) (hold_line 0 ∷ call) tt
     (held_from 0 [] call refl
     (held_over (line (Call 1) [] 1) (0 ∷ []) request tt refl ((refl, refl), tt)
-    (held_over (line (Routine RoutineName.Take) [] 2) (0 ∷ []) (hold_line Unhold 0 ∷ result ∷ []) tt refl ((refl, refl), tt)
+    (held_over (line (Routine RoutineName.Take) [] 2) (0 ∷ []) (unhold_line 0 ∷ result ∷ []) tt refl ((refl, refl), tt)
     (held_to 0 [] (result ∷ []) refl
     (none_held_before result [] tt refl)))))

@@ -5,7 +5,7 @@ use Rattle.rv_isa.specs.declared.asm.Action.{Action}
 use Rattle.rv_isa.specs.declared.asm.Action.TheVariants.{Compute, Label, Jump, Branch, Call, TailCall, Return, Routine, Hold, Unhold}
 use Rattle.rv_isa.specs.AsmCode.{Line, Lines}
 use Rattle.rv_isa.specs.Primitives.{Reply, answers, ends, fails, Primitives, Turn, go, ended, stuck, or_stuck, by_token, end_of}
-use Rattle.rv_isa.specs.Frames.{Frame, empty, put, put_into, all_of, only_of, result_of, received, found, top, taken_if, holding, unholding}
+use Rattle.rv_isa.specs.Frames.{Frame, empty, put, put_into, all_of, only_of, twice_of, result_of, received, found, top, taken_if, holding, unholding}
 use Rattle.rv_isa.specs.Costs.{instructions_of, move_instructions, line_moves}
 
 -- the frames, the running one first, and what is shared
@@ -75,11 +75,11 @@ asm_acts m depth q f fs shared Return args into words =
 asm_acts m depth q f fs shared (Routine routine) args into words =
     asm_served into (f ∷ fs) (m.serve routine words (top (f ∷ fs)) shared)
 asm_acts m depth q f fs shared Hold args into words =
-    or_stuck (only_of args) (λ value. or_stuck (only_of words) (λ word. or_stuck (holding value word f.held) (λ held.
+    or_stuck (twice_of args) (λ value. or_stuck (twice_of words) (λ word. or_stuck (holding value word f.held) (λ held.
     or_stuck (by_token m.hold word shared) (λ next. asm_goes (record f { held = held }) fs next))))
 asm_acts m depth q f fs shared Unhold args into words =
     or_stuck (only_of args) (λ value. or_stuck (only_of words) (λ word. or_stuck (unholding value word f.held) (λ held.
-    or_stuck (by_token m.unhold word shared) (λ next. asm_goes (record f { held = held }) fs next))))
+    or_stuck (by_token m.unhold word shared) (λ next. asm_goes (record f { cells = put_into into word f.cells; held = held }) fs next))))
 
 -- The words of the arguments are read first: a value that was not written cannot be read.
 abbrev pub asm_line : {H E W : Type 0} → Primitives H E W → ℕ → List Lines → Frame Line → List (Frame Line) → H → List Line → AsmTurn H W

@@ -1,5 +1,5 @@
 -- Where values stand for what is done with them: the conventions of calls and routines, and what an instruction can reach.
-use Rattle.std.specs.Prelude.{◌==◌, ℕ, suc, ◌+◌, List, [], ◌∷◌, Option, Some, None, Bool, true, false, not, ◌&&◌, ◌||◌, nat_le, slice_get}
+use Rattle.std.specs.Prelude.{◌==◌, ℕ, suc, ◌+◌, List, [], ◌∷◌, Option, Some, None, Bool, true, false, cond, not, ◌&&◌, ◌||◌, nat_le, slice_get}
 use Rattle.std.specs.List.{list_any}
 use Rattle.rv_isa.specs.Routines.{taken_by, given_by, is_spoilt_by}
 use Rattle.rv_isa.specs.declared.asm.Action.{Action}
@@ -78,7 +78,7 @@ takes_at (Call f) n place = is_in (argument n) place
 takes_at (TailCall f) n place = is_in (argument n) place
 takes_at Return n place = is_in (argument n) place
 takes_at (Routine routine) n place = is_in_any (slice_get (taken_by routine) n) place
-takes_at Hold n place = is_slot place
+takes_at Hold n place = cond (n == 0) (is_slot place) (is_register place)
 takes_at Unhold n place = is_slot place
 
 abbrev pub computes_at : Operation → Place → Bool
@@ -92,6 +92,7 @@ abbrev pub gives_at : Action → Place → Bool
 gives_at (Compute operation) place = computes_at operation place
 gives_at (Call f) place = is_in (argument 0) place
 gives_at (Routine routine) place = is_in_any (given_by routine) place
+gives_at Unhold place = is_register place
 gives_at _ place = false
 
 -- each argument from the n-th on stands where the action takes it

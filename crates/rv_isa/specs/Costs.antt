@@ -30,8 +30,8 @@ routine_instructions m _ _ held shared = 0
 -- A far jump is two instructions, and a branch to a far label one over a jump. A call has its callee's entry: it compares the
 -- newest frame with the end of the cells, takes a frame and saves the return address. A return loads it and gives the frame back; a
 -- large frame is taken and given back in two parts. Where one of two functions takes no frame, a tail call from one to the other takes
--- or gives back that of the other one. A token is loaded from its slot, and put on the held chain or taken off. An action
--- is as many instructions where it is written.
+-- or gives back that of the other one. A token in a register is put on the held chain; one is loaded from its slot and
+-- taken off. An action is as many instructions where it is written.
 abbrev pub action_instructions : Action → ℕ
 action_instructions (Compute operation) = operation_instructions operation
 action_instructions (Label l) = 0
@@ -41,7 +41,7 @@ action_instructions (Call f) = 7
 action_instructions (TailCall f) = 3
 action_instructions Return = 4
 action_instructions (Routine routine) = 2
-action_instructions Hold = 6
+action_instructions Hold = 5
 action_instructions Unhold = 3
 
 abbrev pub instructions_of : {H E W : Type 0} → Primitives H E W → Action → Option (List ℕ) → Option ℕ → H → ℕ
@@ -50,11 +50,13 @@ instructions_of m action words held shared = action_instructions action + routin
 -- ---- moves
 
 -- The moves for the arguments of an action, at most. Each is loaded. Those of a computation may be stored again behind it, where
--- they are still needed; those of a call are stored once more, by its callee.
+-- they are still needed; those of a call are stored once more, by its callee. A token that is taken back
+-- is in its slot, from which the action itself loads it.
 abbrev pub argument_moves : Action → ℕ → ℕ
 argument_moves (Compute operation) count = 2 * count
 argument_moves (Call f) count = 2 * count
 argument_moves (TailCall f) count = 2 * count
+argument_moves Unhold count = 0
 argument_moves _ count = count
 
 -- the move for a result, which is stored

@@ -38,6 +38,11 @@ only_of [] = None
 only_of (a ∷ []) = Some a
 only_of (a ∷ b ∷ more) = None
 
+-- what stands there twice
+abbrev pub twice_of : List ℕ → Option ℕ
+twice_of (a ∷ b ∷ []) = cond (a == b) (Some a) None
+twice_of _ = None
+
 -- what a return gives: nothing, or a word
 abbrev pub result_of : List ℕ → Option (Option ℕ)
 result_of [] = Some None

@@ -9,7 +9,7 @@ use Rattle.rv_isa.specs.declared.placed.Operand.{Operand}
 use Rattle.rv_isa.specs.PlacedCode.{PlacedLine, does, moves, PlacedLines, from_of, to_of}
 use Rattle.rv_isa.specs.Conventions.{argument, conforms, spoils, is_lost}
 use Rattle.rv_isa.specs.Primitives.{Reply, answers, ends, fails, Primitives, Turn, go, ended, stuck, or_stuck, by_token, end_of}
-use Rattle.rv_isa.specs.Frames.{Frame, empty, put, all_of, only_of, result_of, received, found, top, taken_if, is_among, holding, unholding}
+use Rattle.rv_isa.specs.Frames.{Frame, empty, put, all_of, only_of, twice_of, result_of, received, found, top, taken_if, is_among, holding, unholding}
 use Rattle.rv_isa.specs.AsmMachine.{is_label, unless_held}
 use Rattle.rv_isa.specs.Costs.{instructions_of, move_instructions}
 
@@ -65,6 +65,10 @@ abbrev pub only_slot : List Operand → Option ℕ
 only_slot [] = None
 only_slot (arg ∷ []) = slot_of arg.place
 only_slot (arg ∷ other ∷ more) = None
+
+abbrev pub first_slot : List Operand → Option ℕ
+first_slot [] = None
+first_slot (arg ∷ args) = slot_of arg.place
 
 -- the frame of a function of a number as it begins
 abbrev pub placed_entered : ℕ → PlacedLines → Frame PlacedLine
@@ -123,11 +127,11 @@ placed_acts m depth q f fs registers shared Return args into words =
 placed_acts m depth q f fs registers shared (Routine routine) args into words =
     placed_served into (f ∷ fs) (kept_by (Routine routine) registers) (m.serve routine words (top (f ∷ fs)) shared)
 placed_acts m depth q f fs registers shared Hold args into words =
-    or_stuck (only_slot args) (λ k. or_stuck (only_of words) (λ word. or_stuck (holding k word f.held) (λ held.
+    or_stuck (first_slot args) (λ k. or_stuck (twice_of words) (λ word. or_stuck (holding k word f.held) (λ held.
     or_stuck (by_token m.hold word shared) (λ next. placed_goes (record f { held = held }) fs (kept_by Hold registers) next))))
 placed_acts m depth q f fs registers shared Unhold args into words =
     or_stuck (only_slot args) (λ k. or_stuck (only_of words) (λ word. or_stuck (unholding k word f.held) (λ held.
-    or_stuck (by_token m.unhold word shared) (λ next. placed_goes (record f { held = held }) fs (kept_by Unhold registers) next))))
+    or_stuck (by_token m.unhold word shared) (λ next. placed_gives into word (record f { held = held }) fs (kept_by Unhold registers) next))))
 
 -- whether a place is the slot of a held token
 abbrev pub is_held : List ℕ → Place → Bool

@@ -65,7 +65,7 @@ most_args (Call f) = greatest_of Parameters
 most_args (TailCall f) = greatest_of Parameters
 most_args Return = 1
 most_args (Routine routine) = length (taken_by routine)
-most_args Hold = 1
+most_args Hold = 2
 most_args Unhold = 1
 
 -- whether the action gives a value
@@ -80,6 +80,7 @@ may_give (Compute Free) = false
 may_give (Compute operation) = true
 may_give (Call f) = true
 may_give (Routine routine) = has_value (given_by routine)
+may_give Unhold = true
 may_give _ = false
 
 -- whether the arguments of an action are handed over: their places are lost
@@ -124,10 +125,15 @@ goes_straight_on (TailCall f) = false
 goes_straight_on Return = false
 goes_straight_on _ = true
 
--- The values that are held before an action and behind it, the newest first: a Hold puts its argument in front, an Unhold takes it
+-- the token that a Hold holds
+abbrev pub first_of : List ℕ → List ℕ
+first_of [] = []
+first_of (v ∷ more) = v ∷ []
+
+-- The values that are held before an action and behind it, the newest first: a Hold puts its token in front, an Unhold takes it
 -- from there. Where one is held, code goes straight on.
 abbrev pub ChangesHeld : Action → List ℕ → List ℕ → List ℕ → Type 0
-ChangesHeld Hold args before behind = behind ≡ args ++ before
+ChangesHeld Hold args before behind = behind ≡ first_of args ++ before
 ChangesHeld Unhold args before behind = before ≡ args ++ behind
 ChangesHeld action args before behind = (before ≡ behind) × (goes_straight_on action ≡ false → before ≡ [])
 

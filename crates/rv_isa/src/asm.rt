@@ -51,9 +51,10 @@ pub enum Action {
     Return,
     /// A call of a routine of the runtime.
     Routine(Routine),
-    /// Puts the argument, a token, on the chain of held tokens. The null token stays off it.
+    /// Puts a token on the chain of held tokens. The null token stays off it. The token is both arguments: the first one is in
+    /// its slot, which holds it, and the second one in a register.
     Hold,
-    /// Takes the argument off the chain of held tokens again, unless it is the null token.
+    /// Takes the argument off the chain of held tokens again, unless it is the null token, and gives it.
     Unhold,
 }
 
