@@ -17,7 +17,7 @@ use Rattle.kk_counted.specs.CountedStates.{CountedSetting, CountedState, counted
 use Rattle.kk_counted.specs.Marks.{CellMarks}
 use Rattle.kk_counted.specs.TokenedCodes.{Tokened, TokenedArms, TokenedFunction}
 use Rattle.kk_counted.proofs.Examples.{nil_or_cons}
-use Rattle.rv_isa.specs.declared.asm.Action.TheVariants.{Compute, Label, Jump, Branch, Call, Return, Routine as Calls, Hold, Unhold}
+use Rattle.rv_isa.specs.declared.asm.Action.TheVariants.{Compute, Label, Jump, Branch, Call, Return, Routine as Calls, Unhold}
 use Rattle.rv_isa.specs.declared.asm.Condition.TheVariants.{NotEqual}
 use Rattle.rv_isa.specs.declared.asm.Operation.TheVariants as Op
 use Rattle.rv_isa.specs.declared.asm.RegisterOperation.TheVariants as Register
@@ -32,7 +32,7 @@ use Rattle.rv_lower.specs.Lines.{computes, sets, copies_to, acts}
 use Rattle.rv_lower.specs.Lowered.{returns}
 use Rattle.rv_cells.specs.Layout.{Layout}
 use Rattle.rv_cells.specs.declared.standing.Standing.TheVariants.{Nothing}
-use Rattle.rv_cells.specs.CellLines.{SomeWords, is_kept, ConstructLines, FillLines, AllLoads, CountLines, token_ends, TokenUniqueLines}
+use Rattle.rv_cells.specs.CellLines.{hold_line, back_line, SomeWords, is_kept, ConstructLines, FillLines, AllLoads, CountLines, token_ends, TokenUniqueLines}
 use Rattle.rv_cells.proofs.Standings.{nothing_kept}
 use Rattle.rv_cells.specs.CountedLines.{Setting}
 use Rattle.rv_cells.specs.Meaning.{setting_on}
@@ -149,10 +149,10 @@ abbrev calls_line : Line
 calls_line = record { action = Call 0; args = 8 ∷ []; into = Some 5 }
 
 abbrev calls_lines : List Line
-calls_lines = copies_to 2 8 ∷ calls_line ∷ acts Unhold (7 ∷ []) ∷ fills_and_returns
+calls_lines = copies_to 2 8 ∷ calls_line ∷ back_line 7 ∷ fills_and_returns
 
 abbrev adds_lines : List Line
-adds_lines = sets 1 3 ∷ computes (Op.Register Register.Add) (1 ∷ 3 ∷ []) 4 ∷ acts Hold (7 ∷ []) ∷ calls_lines
+adds_lines = sets 1 3 ∷ computes (Op.Register Register.Add) (1 ∷ 3 ∷ []) 4 ∷ hold_line 7 ∷ calls_lines
 
 abbrev inc_lines : Lines
 inc_lines = record {
@@ -308,7 +308,7 @@ fills_rest = (
 
 -- the same of a construction around whose request the token of value 4 is held
 fills_held : FillLines 8 6 7 (4 ∷ []) 7 513 (1 ∷ 2 ∷ []) [] false false
-    (copies_to 7 6 ∷ acts (Branch NotEqual 7) (6 ∷ []) ∷ acts Hold (4 ∷ [])
+    (copies_to 7 6 ∷ acts (Branch NotEqual 7) (6 ∷ []) ∷ hold_line 4
     ∷ record { action = Calls Take; args = []; into = Some 6 } ∷ acts Unhold (4 ∷ []) ∷ acts (Label 7) [] ∷ stores_cons 8 6 1 2)
 fills_held = ([], stores_cons 8 6 1 2, none_kept 8 6 1 2, stores_all 8 6 1 2, refl)
 
@@ -318,7 +318,7 @@ calls : CodeLines (setting inc_holds 8) 7 returns 7
     (Tokened.unhold 0 (Tokened.fill 6 0 3 4 (5 ∷ []) [] [] (Tokened.give 6)))) calls_lines 8
 calls = (
   copies_to 2 8 ∷ calls_line ∷ [],
-  acts Unhold (7 ∷ []) ∷ fills_and_returns,
+  back_line 7 ∷ fills_and_returns,
   7,
   false,
   (refl, refl),
@@ -333,13 +333,13 @@ adds : CodeLines (setting inc_holds 8) 7 returns 7
     (Tokened.unhold 0 (Tokened.fill 6 0 3 4 (5 ∷ []) [] [] (Tokened.give 6))))))) adds_lines 8
 adds = (
   sets 1 3 ∷ [],
-  computes (Op.Register Register.Add) (1 ∷ 3 ∷ []) 4 ∷ acts Hold (7 ∷ []) ∷ calls_lines,
+  computes (Op.Register Register.Add) (1 ∷ 3 ∷ []) 4 ∷ hold_line 7 ∷ calls_lines,
   7,
   false,
   ((1, refl, lit< tt, refl), refl),
   (
     computes (Op.Register Register.Add) (1 ∷ 3 ∷ []) 4 ∷ [],
-    acts Hold (7 ∷ []) ∷ calls_lines,
+    hold_line 7 ∷ calls_lines,
     7,
     false,
     (refl, refl),

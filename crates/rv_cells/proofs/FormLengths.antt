@@ -16,7 +16,7 @@ use Rattle.kk_core.specs.CodeNodes.{form_words, give_words, field_words, referen
 use Rattle.kk_counted.specs.Lowerable.{HasArity}
 use Rattle.kk_counted.specs.TokenLengths.{hold_length, unhold_length, other_length}
 use Rattle.kk_counted.specs.TokenedWords.{prints_in_form}
-use Rattle.rv_isa.specs.declared.asm.Action.TheVariants.{Label, TailCall, Call as CallOf, Routine as Calls, Hold}
+use Rattle.rv_isa.specs.declared.asm.Action.TheVariants.{Label, TailCall, Call as CallOf, Routine as Calls}
 use Rattle.rv_isa.specs.declared.asm.ImmediateOperation.{ImmediateOperation}
 use Rattle.rv_isa.specs.declared.asm.ImmediateOperation.TheVariants.{Addi, Sltiu, Xori}
 use Rattle.rv_isa.specs.declared.asm.Operation.TheVariants as Op
@@ -30,7 +30,7 @@ use Rattle.rv_lower.specs.Lines.{MakesTruth, Compares, ComparesWithOne, BinaryLi
 use Rattle.rv_cells.specs.Layout.{header_of, first_field}
 use Rattle.rv_cells.specs.CellLines.{Loads, Stores, AllLoads, AllStores, dup_lines, drop_lines, dups_lines, drops_lines}
 use Rattle.rv_cells.specs.CellLines.{StoresIf, SomeStores, SetIf, is_kept, ConstructLines, FillLines, TokenUniqueLines, CountLines}
-use Rattle.rv_cells.specs.CellLines.{hold_lines, unhold_lines, token_ends}
+use Rattle.rv_cells.specs.CellLines.{hold_line, hold_lines, unhold_lines, token_ends}
 use Rattle.rv_cells.specs.CountedLines.{Setting, ComputeLines}
 
 pub lines_append : (first second : List Line) → code_length (first ++ second) ≡ code_length first + code_length second
@@ -181,10 +181,10 @@ construct_length base x header arguments lines is =
 holds_length : (tokens : List ℕ) → code_length (hold_lines tokens) ≡ hold_length * length tokens
 holds_length [] = omega arith
 holds_length (token ∷ tokens) =
-    let apart = lines_append (hold_lines tokens) (acts Hold (token ∷ []) ∷ []) in
+    let apart = lines_append (hold_lines tokens) (hold_line token ∷ []) in
     let more = holds_length tokens in omega (arith, apart, more)
 
-unholds_length : (tokens : List ℕ) → code_length (unhold_lines tokens) ≡ unhold_length * length tokens
+unholds_length : (tokens : List ℕ) → code_length (unhold_lines tokens) ≤ unhold_length * length tokens
 unholds_length [] = omega arith
 unholds_length (token ∷ tokens) = let more = unholds_length tokens in omega (arith, more)
 

@@ -8,13 +8,13 @@ use Rattle.kk_counted.specs.BareForms.{bare}
 use Rattle.kk_counted.specs.CodePlaces.{part_of, code_at}
 use Rattle.kk_counted.specs.CountedCodes.{Counted}
 use Rattle.kk_counted.specs.TokenedCodes.{Tokened, TokenedArms}
-use Rattle.rv_isa.specs.declared.asm.Action.TheVariants.{Compute, Label, Jump, Branch, Hold, Unhold}
+use Rattle.rv_isa.specs.declared.asm.Action.TheVariants.{Compute, Label, Jump, Branch}
 use Rattle.rv_isa.specs.declared.asm.Condition.TheVariants.{Equal, NotEqual}
 use Rattle.rv_isa.specs.declared.asm.Operation.TheVariants as Op
 use Rattle.rv_isa.specs.AsmCode.{Line}
 use Rattle.rv_lower.specs.Lines.{sets, copies_to, acts}
 use Rattle.rv_lower.specs.Lowered.{Goal, joins}
-use Rattle.rv_cells.specs.CellLines.{dup_lines, drop_lines, drops_lines, TokenUniqueLines}
+use Rattle.rv_cells.specs.CellLines.{dup_lines, drop_lines, drops_lines, hold_line, back_line, TokenUniqueLines}
 use Rattle.rv_cells.specs.declared.compare.Branching.{Branching}
 use Rattle.rv_cells.specs.ComparisonBranch.{branch_of}
 use Rattle.rv_cells.specs.CountedLines.{Setting}
@@ -128,9 +128,9 @@ module _ (setting : Setting) (variables : ℕ) where
         part [] (copies_to (variables + of) (variables + to) ∷ [])
         (tree rest lines.0 (parts_behind None goal low rest lines.0 high lines.1)) no_part
     parts_behind left goal low (Tokened.hold y rest) own high lines =
-        part [] (acts Hold ((variables + y) ∷ []) ∷ []) (tree rest lines.0 (parts_behind None goal low rest lines.0 high lines.1)) no_part
+        part [] (hold_line (variables + y) ∷ []) (tree rest lines.0 (parts_behind None goal low rest lines.0 high lines.1)) no_part
     parts_behind left goal low (Tokened.unhold y rest) own high lines =
-        part [] (acts Unhold ((variables + y) ∷ []) ∷ []) (tree rest lines.0 (parts_behind None goal low rest lines.0 high lines.1)) no_part
+        part [] (back_line (variables + y) ∷ []) (tree rest lines.0 (parts_behind None goal low rest lines.0 high lines.1)) no_part
     parts_behind left goal low (Tokened.if_token y there absent) own high lines =
         part [] (acts (Branch Equal low) ((variables + y) ∷ []) ∷ [])
         (tree there lines.0 (parts_behind None goal (low + 1) there lines.0 lines.2 lines.3))

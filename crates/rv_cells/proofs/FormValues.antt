@@ -6,7 +6,7 @@ use Rattle.kk_syntax.specs.Shapes.{is_among}
 use Rattle.kk_core.specs.Decisions.{NodeTree, chooses, tests}
 use Rattle.kk_core.specs.declared.decisions.Answer.{Answer}
 use Rattle.kk_core.specs.declared.decisions.Edge.{Edge}
-use Rattle.rv_isa.specs.declared.asm.Action.TheVariants.{Compute, Label, Jump, Branch, Routine as Calls, Hold}
+use Rattle.rv_isa.specs.declared.asm.Action.TheVariants.{Compute, Label, Jump, Branch, Routine as Calls}
 use Rattle.rv_isa.specs.declared.asm.Condition.TheVariants.{Equal, NotEqual}
 use Rattle.rv_isa.specs.declared.asm.Operation.TheVariants as Op
 use Rattle.rv_isa.specs.declared.asm.ImmediateOperation.TheVariants.{Addi, Andi}
@@ -17,7 +17,7 @@ use Rattle.rv_isa.proofs.ValueBounds.{lines_joined}
 use Rattle.rv_lower.specs.Lines.{computes, sets, copies_to, acts}
 use Rattle.rv_cells.specs.Layout.{Layout, first_field}
 use Rattle.rv_cells.specs.CellLines.{Loads, Stores, AllLoads, AllStores, StoresIf, SomeStores, SetIf, is_kept, dup_lines, drop_lines}
-use Rattle.rv_cells.specs.CellLines.{dups_lines, drops_lines, ConstructLines, hold_lines, unhold_lines, SomeWords, FillLines}
+use Rattle.rv_cells.specs.CellLines.{dups_lines, drops_lines, ConstructLines, hold_line, hold_lines, unhold_lines, SomeWords, FillLines}
 use Rattle.rv_cells.specs.CellLines.{CountLines, token_ends, Walks, walked, spare, equal_lines, jump_lines, either_lines}
 use Rattle.rv_cells.specs.CountedLines.{answer_word, answer_tag, Ways, number_tests, last_lines, ChoiceLines, OddLines, DecideLines}
 use Rattle.rv_cells.specs.CountedLines.{TestLines, first_lines, NodeLines, NodesLines}
@@ -121,7 +121,8 @@ module _ (most : ℕ) where
   hold_below : (tokens : List ℕ) → AreValuesBelow most tokens → AreLinesBelow most (hold_lines tokens)
   hold_below [] below = tt
   hold_below (token ∷ tokens) below =
-      lines_joined most (hold_lines tokens) (acts Hold (token ∷ []) ∷ []) (hold_below tokens below.1) (((below.0, tt), tt), tt)
+      lines_joined most (hold_lines tokens) (hold_line token ∷ []) (hold_below tokens below.1)
+      (((below.0, (below.0, tt)), tt), tt)
 
   unhold_below : (tokens : List ℕ) → AreValuesBelow most tokens → AreLinesBelow most (unhold_lines tokens)
   unhold_below [] below = tt

@@ -3,13 +3,13 @@ use Rattle.std.proofs.Common.{◌≡◌, ℕ, zero, suc, ◌+◌, ◌≤◌, ◌
 use Rattle.std.specs.Prelude.{slice_get}
 use Rattle.std.proofs.lemmas.List.{append-nil, length-append}
 use Rattle.kk_counted.specs.TokenedCodes.{Tokened, TokenedArms}
-use Rattle.rv_isa.specs.declared.asm.Action.TheVariants.{Compute, Label, Branch, Hold, Unhold}
+use Rattle.rv_isa.specs.declared.asm.Action.TheVariants.{Compute, Label, Branch}
 use Rattle.rv_isa.specs.declared.asm.Condition.TheVariants.{Equal}
 use Rattle.rv_isa.specs.declared.asm.Operation.TheVariants as Op
 use Rattle.rv_isa.specs.AsmCode.{Line}
 use Rattle.rv_lower.specs.Lines.{sets, copies_to, acts}
 use Rattle.rv_lower.specs.Lowered.{Goal, joins}
-use Rattle.rv_cells.specs.CellLines.{dup_lines, drop_lines, TokenUniqueLines}
+use Rattle.rv_cells.specs.CellLines.{dup_lines, drop_lines, hold_line, back_line, TokenUniqueLines}
 use Rattle.rv_cells.specs.declared.compare.Branching.{Branching}
 use Rattle.rv_cells.specs.ComparisonBranch.{branch_of}
 use Rattle.rv_cells.specs.CountedLines.{Setting}
@@ -252,7 +252,7 @@ module _ (setting : Setting) (variables : ℕ) where
     orderly left goal low (Tokened.hold y rest) own high lines a = (
       omega arith,
       (
-        ([], before_all own (acts Hold ((variables + y) ∷ []) ∷ []) lines.0 lines.2),
+        ([], before_all own (hold_line (variables + y) ∷ []) lines.0 lines.2),
         (
           (
             act_own setting variables None goal low rest lines.0 high lines.1 a,
@@ -265,7 +265,7 @@ module _ (setting : Setting) (variables : ℕ) where
     orderly left goal low (Tokened.unhold y rest) own high lines a = (
       omega arith,
       (
-        ([], before_all own (acts Unhold ((variables + y) ∷ []) ∷ []) lines.0 lines.2),
+        ([], before_all own (back_line (variables + y) ∷ []) lines.0 lines.2),
         (
           (
             act_own setting variables None goal low rest lines.0 high lines.1 a,

@@ -341,14 +341,14 @@ module _ (setting : Setting) (marks : CellMarks) (result : Bool) (variables slot
     code_below comes (Tokened.hold y rest) bound unspent left held given goal low high lines branch to has uses numbered arities few
         spends is =
         subst Below (sym is.2) (
-          ((slot_less y few.0, tt), tt),
+          ((slot_less y few.0, (slot_less y few.0, tt)), tt),
           code_below None rest bound unspent left (y ∷ held) given goal low high is.0 tt to has uses numbered arities few.1 spends.1.1
               is.1,
         )
     code_below comes (Tokened.unhold y rest) bound unspent left held given goal low high lines branch to has uses numbered arities
         few spends is =
         subst Below (sym is.2) (
-          ((slot_less y few.0, tt), tt),
+          ((slot_less y few.0, tt), slot_less y few.0),
           code_below None rest bound unspent left spends.0 given goal low high is.0 tt to has uses numbered arities few.1 spends.1.1.1
               is.1,
         )

@@ -1,21 +1,19 @@
 -- Rows of tokens of one frame are held, and taken back.
 use Rattle.std.proofs.Common.{◌≡◌, ◌≢◌, ◌⊎◌, inl, inr, ℕ, zero, suc, ◌+◌, ◌==◌, Bool, true, false, List, [], ◌∷◌, ◌++◌, length, Option, Some, None, refl, sym, ◌∙◌, ap, subst, arith, append_assoc}
 use Rattle.std.specs.Prelude.{◌||◌}
-use Rattle.rv_isa.specs.declared.asm.Action.TheVariants.{Hold, Unhold}
 use Rattle.rv_isa.specs.AsmCode.{Line}
 use Rattle.rv_isa.specs.Frames.{Frame, is_among}
 use Rattle.cell_heap.specs.Blocks.{Cells, past_links}
 use Rattle.kk_counted.specs.Heaps.{Heap}
 use Rattle.cell_runtime.specs.World.{World, with_cells}
-use Rattle.rv_lower.specs.Lines.{acts}
 use Rattle.rv_cells.specs.Layout.{Layout}
 use Rattle.rv_cells.specs.CountedCells.{Owner, in_hand, kept_aside, Follows, with_owner}
-use Rattle.rv_cells.specs.CellLines.{hold_lines, unhold_lines}
+use Rattle.rv_cells.specs.CellLines.{hold_line, hold_lines, unhold_lines}
 use Rattle.rv_cells.proofs.Owners.{chosen_other}
 use Rattle.rv_cells.proofs.Counts.{put_aside, taken_back}
 use Rattle.rv_cells.proofs.LineCosts.{most_moves, row_cost}
 use Rattle.rv_cells.proofs.Runs.{Target, turn_of, Runs, runs_none, runs_then}
-use Rattle.rv_cells.proofs.HeldTokens.{holding_now, hold_runs, hold_null_runs, unhold_runs, unhold_null_runs}
+use Rattle.rv_cells.proofs.HeldTokens.{takes_back, holding_now, hold_runs, hold_null_runs, unhold_runs, unhold_null_runs}
 
 -- ---- tokens of a frame
 
@@ -164,12 +162,12 @@ module _ (target : Target) (layout : Layout) (address : ℕ → ℕ) (heap : Hea
   -- one token more is held
   hold_one : (z : ℕ) (rest : List Line) (g : Frame Line) (owners : ℕ → Owner) (world : World) → Held owners world.cells
       → IsToken in_hand owners (g.cells z) → is_among z g.held ≡ false
-      → (cells : Cells) × Runs target (most_moves + 9) 1 (turn_of (acts Hold (z ∷ []) ∷ rest) g fs world)
+      → (cells : Cells) × Runs target (most_moves + 9) 1 (turn_of (hold_line z ∷ rest) g fs world)
       (turn_of rest (holding_now (live_with (g.cells z) z g.held) g) fs (with_cells world cells))
       × Held (one_turned as_held (g.cells z) owners) cells
   hold_one z rest g owners world follows (inl null) apart = (
     world.cells,
-    subst (λ h. Runs target (most_moves + 9) 1 (turn_of (acts Hold (z ∷ []) ∷ rest) g fs world)
+    subst (λ h. Runs target (most_moves + 9) 1 (turn_of (hold_line z ∷ rest) g fs world)
         (turn_of rest (holding_now h g) fs world)) (sym (live_null (g.cells z) z g.held null))
         (hold_null_runs target rest g fs world z null apart),
     subst (λ v. Held (one_turned as_held v owners) world.cells) (sym null) follows,
@@ -177,7 +175,7 @@ module _ (target : Target) (layout : Layout) (address : ℕ → ℕ) (heap : Hea
   hold_one z rest g owners world follows (inr cell) apart =
       let put = put_aside follows cell.0 cell.1 cell.4 in (
         put.now,
-        subst (λ h. Runs target (most_moves + 9) 1 (turn_of (acts Hold (z ∷ []) ∷ rest) g fs world)
+        subst (λ h. Runs target (most_moves + 9) 1 (turn_of (hold_line z ∷ rest) g fs world)
             (turn_of rest (holding_now h g) fs (with_cells world put.now)))
             (sym (live_cell (g.cells z) cell.0 z g.held cell.2 cell.3))
             (hold_runs target rest g fs world z cell.0 put.now cell.2 cell.3 apart put.is),
@@ -192,7 +190,7 @@ module _ (target : Target) (layout : Layout) (address : ℕ → ℕ) (heap : Hea
       × Held (all_held f.cells zs owners) cells
   hold_row [] rest f owners world follows tokens out = (world.cells, runs_none target (turn_of rest f fs world), follows)
   hold_row (z ∷ zs) rest f owners world follows tokens out =
-      let line = acts Hold (z ∷ []) in
+      let line = hold_line z in
       let first = hold_row zs (line ∷ rest) f owners world follows tokens.3 out.1 in
       let g = holding_now (live f.cells zs ++ f.held) f in
       let w1 = with_cells world first.0 in
@@ -250,17 +248,17 @@ module _ (target : Target) (layout : Layout) (address : ℕ → ℕ) (heap : Hea
       by tokens.0 (λ g os w same holds are. unhold_row zs rest g held os w same holds are out.1)
     where
       ends : (g : Frame Line) (w : World) (cells : Cells)
-          → Runs target (most_moves + 7) 1 (turn_of (acts Unhold (z ∷ []) ∷ (unhold_lines zs ++ rest)) f fs world) (turn_of (unhold_lines zs ++ rest) g fs w)
+          → Runs target (most_moves + 7) 1 (turn_of (takes_back None z ∷ (unhold_lines zs ++ rest)) f fs world) (turn_of (unhold_lines zs ++ rest) g fs w)
           → Runs target (row_cost zs (most_moves + 7)) (length zs) (turn_of (unhold_lines zs ++ rest) g fs w)
           (turn_of rest (holding_now held f) fs (with_cells world cells))
           → Runs target (row_cost (z ∷ zs) (most_moves + 7)) (length (z ∷ zs))
-          (turn_of (acts Unhold (z ∷ []) ∷ (unhold_lines zs ++ rest)) f fs world) (turn_of rest (holding_now held f) fs (with_cells world cells))
+          (turn_of (takes_back None z ∷ (unhold_lines zs ++ rest)) f fs world) (turn_of rest (holding_now held f) fs (with_cells world cells))
       ends g w cells first second =
           let long : 1 + length zs ≡ suc (length zs) = omega arith in
           subst (λ k. Runs target ((most_moves + 7) + row_cost zs (most_moves + 7)) k
-          (turn_of (acts Unhold (z ∷ []) ∷ (unhold_lines zs ++ rest)) f fs world) (turn_of rest (holding_now held f) fs (with_cells world cells))) long
+          (turn_of (takes_back None z ∷ (unhold_lines zs ++ rest)) f fs world) (turn_of rest (holding_now held f) fs (with_cells world cells))) long
           (runs_then target (most_moves + 7) (row_cost zs (most_moves + 7)) 1 (length zs)
-          (turn_of (acts Unhold (z ∷ []) ∷ (unhold_lines zs ++ rest)) f fs world) (turn_of (unhold_lines zs ++ rest) g fs w)
+          (turn_of (takes_back None z ∷ (unhold_lines zs ++ rest)) f fs world) (turn_of (unhold_lines zs ++ rest) g fs w)
           (turn_of rest (holding_now held f) fs (with_cells world cells)) first second)
 
       by : IsToken kept_aside owners (f.cells z)
@@ -273,7 +271,7 @@ module _ (target : Target) (layout : Layout) (address : ℕ → ℕ) (heap : Hea
           ∙ among_both z (live f.cells zs) held (live_among f.cells z zs tokens.1) out.0 in
           let second = again f owners world held_is follows tokens.3 in (
             second.0,
-            ends f world second.0 (unhold_null_runs target (unhold_lines zs ++ rest) f fs world z null apart) second.1,
+            ends f world second.0 (unhold_null_runs target (unhold_lines zs ++ rest) f fs world None z null refl apart) second.1,
             subst (λ v. Held (all_back f.cells zs (one_turned as_back v owners)) second.0) (sym null) second.2,
           )
       by (inr cell) again =
@@ -288,7 +286,8 @@ module _ (target : Target) (layout : Layout) (address : ℕ → ℕ) (heap : Hea
           let second = again g owners1 w1 refl back.holds others in (
             second.0,
             ends g w1 second.0
-                (unhold_runs target (unhold_lines zs ++ rest) f fs world z cell.0 (live f.cells zs ++ held) back.now cell.2 cell.3 newest back.is)
+                (unhold_runs target (unhold_lines zs ++ rest) f fs world None z cell.0 (live f.cells zs ++ held) back.now cell.2 refl cell.3 newest
+                back.is)
                 second.1,
             subst (λ o. Held (all_back f.cells zs o) second.0) (sym (turned_cell as_back (f.cells z) cell.0 owners cell.2 cell.3))
                 (subst (λ o. Held (all_back f.cells zs (with_owner cell.0 (as_back o) owners)) second.0) (sym cell.4) second.2),

@@ -22,7 +22,7 @@ use Rattle.kk_counted.specs.declared.tokened.TokenedLast.{TokenedLast}
 use Rattle.kk_counted.specs.declared.tokened.TokenedLast.TheVariants as OfLast
 use Rattle.kk_counted.specs.declared.tokened.TokenedStep.{TokenedStep}
 use Rattle.kk_counted.specs.declared.tokened.TokenedStep.TheVariants as OfStep
-use Rattle.rv_isa.specs.declared.asm.Action.TheVariants.{Compute, Label, Hold, Unhold}
+use Rattle.rv_isa.specs.declared.asm.Action.TheVariants.{Compute, Label}
 use Rattle.rv_isa.specs.declared.asm.Operation.TheVariants.{Free}
 use Rattle.rv_isa.specs.AsmCode.{Line}
 use Rattle.rv_lower.specs.declared.lowering.Lowering.{Lowering}
@@ -32,7 +32,7 @@ use Rattle.rv_lower.specs.Written.{lines_written, texts_written, Wrote, WroteLin
 use Rattle.rv_lower.proofs.CodeGrowth.{grows_of, grows_took, grows_none, grows_then, grows_more, later_texts}
 use Rattle.rv_cells.specs.declared.decide.Targets.{Targets}
 use Rattle.rv_cells.specs.Layout.{header_of}
-use Rattle.rv_cells.specs.CellLines.{FillLines, ReadLines, dup_lines, drop_lines}
+use Rattle.rv_cells.specs.CellLines.{FillLines, ReadLines, dup_lines, drop_lines, hold_line, back_line}
 use Rattle.rv_cells.specs.CountedLines.{Setting, ways_of, NodesLines}
 use Rattle.rv_cells.specs.TokenedLines.{OwnLines, LinesBehind, CodeLines, ArmsLines, MayFill, values_of_slots, header_stands, count_stands}
 use Rattle.rv_cells.specs.TokenedWritten.{token_test_lines, WroteFill, WroteAsk, WroteTokened, WroteTokenedArms, WroteTokenedSteps}
@@ -276,16 +276,16 @@ step_moves facts variables to of wrote =
     (λ rest. refl)
     (λ later goal rest more high is. (more, code_same facts variables goal rest more high refl refl wrote.label is, refl))
 
-pub step_holds : {a b : Lowering} (facts : Facts) (variables y : ℕ) → Wrote (acts Hold ((variables + y) ∷ []) ∷ []) a b
+pub step_holds : {a b : Lowering} (facts : Facts) (variables y : ℕ) → Wrote (hold_line (variables + y) ∷ []) a b
     → WroteTokenedSteps facts variables (TokenedMove.holds y ∷ []) [] a b
 step_holds facts variables y wrote =
-    step_alone facts variables (TokenedMove.holds y) (acts Hold ((variables + y) ∷ []) ∷ []) (grows_of wrote) (λ rest. refl)
+    step_alone facts variables (TokenedMove.holds y) (hold_line (variables + y) ∷ []) (grows_of wrote) (λ rest. refl)
     (λ later goal rest more high is. (more, code_same facts variables goal rest more high refl refl wrote.label is, refl))
 
-pub step_unholds : {a b : Lowering} (facts : Facts) (variables y : ℕ) → Wrote (acts Unhold ((variables + y) ∷ []) ∷ []) a b
+pub step_unholds : {a b : Lowering} (facts : Facts) (variables y : ℕ) → Wrote (back_line (variables + y) ∷ []) a b
     → WroteTokenedSteps facts variables (TokenedMove.unholds y ∷ []) [] a b
 step_unholds facts variables y wrote =
-    step_alone facts variables (TokenedMove.unholds y) (acts Unhold ((variables + y) ∷ []) ∷ []) (grows_of wrote) (λ rest. refl)
+    step_alone facts variables (TokenedMove.unholds y) (back_line (variables + y) ∷ []) (grows_of wrote) (λ rest. refl)
     (λ later goal rest more high is. (more, code_same facts variables goal rest more high refl refl wrote.label is, refl))
 
 -- ---- forms that may ask for a cell

@@ -22,7 +22,7 @@ use Rattle.kk_counted.specs.TokenLowerable.{HoldsAtCalls, HoldAtCalls}
 use Rattle.kk_counted.specs.TokenSpending.{AtForm, SpendsTokens, SpendAllTokens}
 use Rattle.kk_counted.specs.TokenedCodes.{Tokened, TokenedArms}
 use Rattle.kk_counted.proofs.TokenForms.{among_without}
-use Rattle.rv_isa.specs.declared.asm.Action.TheVariants.{Compute, Branch, Routine as Calls, Unhold}
+use Rattle.rv_isa.specs.declared.asm.Action.TheVariants.{Compute, Branch, Routine as Calls}
 use Rattle.rv_isa.specs.declared.routine.Routine.TheVariants.{Drop}
 use Rattle.rv_isa.specs.declared.asm.Condition.TheVariants.{Equal, NotEqual}
 use Rattle.rv_isa.specs.declared.asm.Operation.{Operation}
@@ -36,7 +36,7 @@ use Rattle.rv_cells.specs.declared.standing.Standing.{Standing}
 use Rattle.rv_lower.proofs.Operations.{Leads}
 use Rattle.rv_lower.proofs.Codes.{Fits, fits_weaker, fits_give, fits_tail_call, fits_inside, fits_split}
 use Rattle.rv_cells.specs.Layout.{Layout, header_of}
-use Rattle.rv_cells.specs.CellLines.{drop_lines}
+use Rattle.rv_cells.specs.CellLines.{drop_lines, back_line}
 use Rattle.rv_cells.specs.CountedLines.{Setting, ComputeLines}
 use Rattle.rv_cells.specs.declared.compare.Branching.{Branching}
 use Rattle.rv_cells.specs.ComparisonBranch.{branch_of, IsTested, MayJoin}
@@ -533,7 +533,7 @@ module _ (layout : Layout) (holds : ℕ → Bool) (texts : Texts) (standing : St
         let below_older = subst (AreBelow slots) at.1.0 below in
         subst (λ (lines : List Line). HeldFits held (reads unspent bound) (reads left outer) goal low high lines) (sym is.2)
         (subst (λ (h : List ℕ). HeldFits h (reads unspent bound) (reads left outer) goal low high
-        (acts Unhold ((variables + y) ∷ []) ∷ is.0)) (sym at.1.0)
+        (back_line (variables + y) ∷ is.0)) (sym at.1.0)
         (fits_unhold (variables + slots) (values_of_slots variables at.0) (reads unspent bound) (reads left outer)
         (has_room unspent bound has) goal low high is.0 (variables + y)
         (slot_there variables slots unspent bound y few.0 spends.1.1.0) (value_other variables y at.0 apart_older.0)

@@ -1,5 +1,5 @@
 -- Well-formed lines before which the tokens of values are held.
-use Rattle.std.proofs.Common.{◌≡◌, ℕ, ◌+◌, ◌<◌, ◌≤◌, ◌==◌, ◌||◌, ◌⊎◌, inl, Bool, true, false, List, [], ◌∷◌, ◌++◌, length}
+use Rattle.std.proofs.Common.{◌≡◌, ℕ, ◌+◌, ◌<◌, ◌≤◌, ◌==◌, ◌||◌, ◌⊎◌, inl, Bool, true, false, List, [], ◌∷◌, ◌++◌, length, All, Option}
 use Rattle.std.proofs.Common.{Some, None, if◌then◌else◌, refl, sym, ap, subst, ◌∙◌, arith, append_assoc}
 use Rattle.std.specs.List.{AllByRecursion}
 use Rattle.std.proofs.lemmas.Bool.{false≢true, ne_eqb}
@@ -14,7 +14,7 @@ use Rattle.rv_isa.specs.declared.asm.Operation.TheVariants as Op
 use Rattle.rv_isa.specs.declared.routine.Routine.TheVariants.{Take, Drop}
 use Rattle.rv_isa.specs.AsmCode.{Line}
 use Rattle.rv_isa.specs.Frames.{is_among}
-use Rattle.rv_isa.specs.WellFormed.{is_written, is_alive, is_alive_behind, most_values, AreLabelsAhead, most_args, hands_over}
+use Rattle.rv_isa.specs.WellFormed.{is_written, has_value, is_alive, is_alive_behind, most_values, AreLabelsAhead, most_args, may_give, hands_over}
 use Rattle.rv_isa.specs.WellFormed.{IsLineFormed, AreLinesFormed, AreTokensHeld}
 use Rattle.rv_isa.proofs.HeldTokens.{held_from, held_to, held_over}
 use Rattle.rv_lower.specs.Lines.{acts, copies_to, copies, temporaries}
@@ -26,7 +26,7 @@ use Rattle.rv_lower.proofs.WellFormedness.{temporaries_above}
 use Rattle.rv_lower.proofs.AbsentLabels.{HasNo, has_no_append}
 use Rattle.rv_lower.proofs.Operations.{only_bound, copied}
 use Rattle.rv_lower.proofs.Codes.{Ahead, Fits}
-use Rattle.rv_cells.specs.CellLines.{drop_lines, hold_lines, unhold_lines}
+use Rattle.rv_cells.specs.CellLines.{drop_lines, hold_line, back_line, hold_lines, unhold_lines}
 use Rattle.rv_cells.proofs.CellForms.{take_formed}
 
 -- well-formed code, before which the tokens of these values are held, the newest first, and only certain values are alive
@@ -48,34 +48,68 @@ holding_weaker held B C code into more =
 
 -- ---- a token more is held, and one is taken back
 
--- an action that reads one value, and hands it over to nobody
-one_read : (action : Action) (y : ℕ) (rest : List Line) → AreLabelsAhead action rest → 1 ≤ most_args action
-    → hands_over action ≡ false → y < most_values → IsLineFormed (acts action (y ∷ [])) rest
-one_read action y rest labels few keeps small = record {
+-- an action that reads values, and hands them over to nobody
+read_formed : (action : Action) (args : List ℕ) (into : Option ℕ) (rest : List Line) → AreLabelsAhead action rest
+    → length args ≤ most_args action → (has_value into ≡ true → may_give action ≡ true) → hands_over action ≡ false
+    → All (λ v. v < most_values) args → ((v : ℕ) → into ≡ Some v → v < most_values)
+    → IsLineFormed (record { action = action; args = args; into = into }) rest
+read_formed action args into rest labels few gives keeps small into_small = record {
   labels = labels;
   few = few;
-  gives = λ is. absurd (false≢true is);
+  gives = gives;
   distinct = λ is. absurd (false≢true (sym keeps ∙ is));
   spent = λ is. absurd (false≢true (sym keeps ∙ is));
-  args_small = All-cons (λ v. v < most_values) y [] small (All-nil (λ v. v < most_values));
-  into_small = λ v is. absurd (none_some is);
+  args_small = small;
+  into_small = into_small;
 }
 
--- a Hold before code before which its value is held, and an Unhold before code before which it is not
+one_small : (y : ℕ) → y < most_values → All (λ v. v < most_values) (y ∷ [])
+one_small y small = All-cons (λ v. v < most_values) y [] small (All-nil (λ v. v < most_values))
+
+-- a token is taken back, of which no value gets the word
+held_back : (y : ℕ) (held : List ℕ) (rest : List Line) → is_among y held ≡ false → AreTokensHeld held rest
+    → AreTokensHeld (y ∷ held) (acts Unhold (y ∷ []) ∷ rest)
+held_back y held rest apart more =
+    (held, (refl, (λ u before behind. (ap (λ (b : Bool). b || false) (other u behind), refl), more)))
+  where
+    other : (u : ℕ) → is_among u held ≡ true → (y == u) ≡ false
+    other u there = ne_eqb y u (λ e. false≢true (sym apart ∙ ap (λ w. is_among w held) e ∙ there))
+
+-- a Hold before code before which its value is held, and an Unhold before code before which it is not, also one that gives the token
 pub holding_more : (held : List ℕ) (B : ℕ → Type 0) (y : ℕ) (rest : List Line) → B y → y < most_values → is_bound held y ≡ false
-    → Holding (y ∷ held) B rest → Holding held B (acts Hold (y ∷ []) ∷ rest)
+    → Holding (y ∷ held) B rest → Holding held B (hold_line y ∷ rest)
 holding_more held B y rest readable small other more = record {
-  lines = (one_read Hold y rest tt (omega arith) refl small, more.lines);
+  lines = (
+    read_formed Hold (y ∷ y ∷ []) None rest tt (omega arith) (λ is. absurd (false≢true is)) refl
+        (All-cons (λ v. v < most_values) y (y ∷ []) small (one_small y small)) (λ v is. absurd (none_some is)),
+    more.lines,
+  );
   tokens = held_from y held rest other more.tokens;
-  alive = alive_line B (acts Hold (y ∷ [])) rest (readable, tt) (λ v none is. more.alive v is);
+  alive = alive_line B (hold_line y) rest (readable, (readable, tt)) (λ v none is. more.alive v is);
 }
 
 pub holding_less : (held : List ℕ) (B : ℕ → Type 0) (y : ℕ) (rest : List Line) → B y → y < most_values → is_bound held y ≡ false
     → Holding held B rest → Holding (y ∷ held) B (acts Unhold (y ∷ []) ∷ rest)
 holding_less held B y rest readable small other more = record {
-  lines = (one_read Unhold y rest tt (omega arith) refl small, more.lines);
-  tokens = held_to y held rest other more.tokens;
+  lines = (
+    read_formed Unhold (y ∷ []) None rest tt (omega arith) (λ is. absurd (false≢true is)) refl (one_small y small)
+        (λ v is. absurd (none_some is)),
+    more.lines,
+  );
+  tokens = held_back y held rest other more.tokens;
   alive = alive_line B (acts Unhold (y ∷ [])) rest (readable, tt) (λ v none is. more.alive v is);
+}
+
+pub holding_back : (held : List ℕ) (B : ℕ → Type 0) (y : ℕ) (rest : List Line) → B y → y < most_values → is_bound held y ≡ false
+    → Holding held B rest → Holding (y ∷ held) B (back_line y ∷ rest)
+holding_back held B y rest readable small other more = record {
+  lines = (
+    read_formed Unhold (y ∷ []) (Some y) rest tt (omega arith) (λ is. refl) refl (one_small y small)
+        (λ v is. subst (λ (w : ℕ). w < most_values) (some_same is) small),
+    more.lines,
+  );
+  tokens = held_to y held rest other more.tokens;
+  alive = alive_line B (back_line y) rest (readable, tt) (λ v none is. more.alive v is);
 }
 
 -- a row of tokens is held, and taken back
@@ -83,8 +117,8 @@ pub holding_row : (B : ℕ → Type 0) (others : List ℕ) (rest : List Line) �
     → AreApart others → Holding others B rest → Holding [] B (hold_lines others ++ rest)
 holding_row B [] rest each small apart more = more
 holding_row B (y ∷ others) rest each small apart more =
-    subst (Holding [] B) (sym (append_assoc (hold_lines others) (acts Hold (y ∷ []) ∷ []) rest))
-    (holding_row B others (acts Hold (y ∷ []) ∷ rest) each.1 small apart.1
+    subst (Holding [] B) (sym (append_assoc (hold_lines others) (hold_line y ∷ []) rest))
+    (holding_row B others (hold_line y ∷ rest) each.1 small apart.1
     (holding_more others B y rest each.0 (small y each.0) apart.0 more))
 
 pub back_row : (B : ℕ → Type 0) (others : List ℕ) (rest : List Line) → Each B others → ((v : ℕ) → B v → v < most_values)
@@ -96,7 +130,7 @@ back_row B (y ∷ others) rest each small apart more =
 
 pub hold_none : (others : List ℕ) (l : ℕ) → HasNo l (hold_lines others)
 hold_none [] l = tt
-hold_none (y ∷ others) l = has_no_append l (hold_lines others) (acts Hold (y ∷ []) ∷ []) (hold_none others l) (refl, tt)
+hold_none (y ∷ others) l = has_no_append l (hold_lines others) (hold_line y ∷ []) (hold_none others l) (refl, tt)
 
 pub unhold_none : (others : List ℕ) (l : ℕ) → HasNo l (unhold_lines others)
 unhold_none [] l = tt
@@ -243,7 +277,7 @@ held_weaker base held bound more outer goal low high lines within fits = record 
 module _ (base : ℕ) (held bound outer : List ℕ) (has : HasRoom base bound) (goal : Goal) (low high : ℕ) (more : List Line) where
   pub fits_hold : (y : ℕ) → is_bound bound y ≡ true → is_bound held y ≡ false
       → FitsHeld base (y ∷ held) bound outer goal low high more
-      → FitsHeld base held bound outer goal low high (acts Hold (y ∷ []) ∷ more)
+      → FitsHeld base held bound outer goal low high (hold_line y ∷ more)
   fits_hold y is other fits = record {
     up = fits.up;
     none = λ l apart. (refl, fits.none l apart);
@@ -252,11 +286,11 @@ module _ (base : ℕ) (held bound outer : List ℕ) (has : HasRoom base bound) (
   }
 
   pub fits_unhold : (y : ℕ) → is_bound bound y ≡ true → is_bound held y ≡ false → FitsHeld base held bound outer goal low high more
-      → FitsHeld base (y ∷ held) bound outer goal low high (acts Unhold (y ∷ []) ∷ more)
+      → FitsHeld base (y ∷ held) bound outer goal low high (back_line y ∷ more)
   fits_unhold y is other fits = record {
     up = fits.up;
     none = λ l apart. (refl, fits.none l apart);
-    good = λ tail ahead. holding_less held (Readable base base bound) y (more ++ tail) (inl is)
+    good = λ tail ahead. holding_back held (Readable base base bound) y (more ++ tail) (inl is)
         (readable_small base base bound has (omega arith) y (inl is)) other (fits.good tail ahead);
   }
 

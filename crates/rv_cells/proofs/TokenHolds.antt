@@ -9,18 +9,17 @@ use Rattle.kk_counted.specs.Tokens.{Slot, null, token, is_token, Link, Tokens, i
 use Rattle.kk_counted.proofs.TokenChain.{not_linked}
 use Rattle.kk_counted.proofs.SlotMarks.{by_null, by_cell}
 use Rattle.kk_counted.proofs.TokenForms.{is_null, has_cell, unspent_has}
-use Rattle.rv_isa.specs.declared.asm.Action.TheVariants.{Hold, Unhold}
 use Rattle.rv_isa.specs.AsmCode.{Line}
 use Rattle.rv_isa.specs.Frames.{Frame, is_among as is_out}
 use Rattle.cell_heap.specs.Blocks.{past_links}
 use Rattle.kk_counted.specs.Spending.{AreApart}
 use Rattle.kk_counted.specs.TokenCosts.{quiet_cost}
 use Rattle.cell_runtime.specs.World.{with_cells}
-use Rattle.rv_lower.specs.Lines.{acts}
+use Rattle.rv_cells.specs.CellLines.{hold_line, back_line}
 use Rattle.rv_cells.specs.CountedCells.{in_hand, kept_aside, with_owner}
 use Rattle.rv_cells.proofs.Counts.{put_aside, taken_back}
 use Rattle.rv_cells.proofs.Words.{hand_owned, aside_owned}
-use Rattle.rv_cells.proofs.HeldTokens.{holding_now, hold_runs, hold_null_runs, unhold_runs, unhold_null_runs}
+use Rattle.rv_cells.proofs.HeldTokens.{put_itself, holding_now, hold_runs, hold_null_runs, unhold_runs, unhold_null_runs}
 use Rattle.rv_cells.proofs.Spots.{Spot}
 use Rattle.rv_cells.proofs.TokenCells.{cell_turns}
 use Rattle.rv_cells.proofs.TokenFields.{past_from}
@@ -76,10 +75,10 @@ module _ (program : Lowering) (y : ℕ) (rest : Tokened) where
   hold_acts : (inner : List TokenJoin) (frames : List TokenFrame) (tokens : Tokens) (input : List ℕ) (s : Spot)
       (fs : List (Frame Line)) (left : List Line) (at : At program (Tokened.hold y rest) inner frames tokens input s fs left)
       → ActsOnTokens program (Tokened.hold y rest) inner frames tokens input s fs left at rest
-      (acts Hold ((at.shape.variables + y) ∷ [])) at.does.placed.lines.0
+      (hold_line (at.shape.variables + y)) at.does.placed.lines.0
   hold_acts inner frames tokens input s fs left at =
       acts_by program (Tokened.hold y rest) inner frames tokens input s fs left at rest
-      (acts Hold ((at.shape.variables + y) ∷ [])) at.does.placed.lines refl refl
+      (hold_line (at.shape.variables + y)) at.does.placed.lines refl refl
       (record { way = []; is_part = inl refl; code_is = refl }) at.does.placed.has.1 at.does.placed.keeps.1
 
   pub at_hold : CodeSteps program (Tokened.hold y rest)
@@ -96,7 +95,7 @@ module _ (program : Lowering) (y : ℕ) (rest : Tokened) where
           let v = at.shape.variables in
           let n = length at.lists.older in
           let slots = tokens.slots (length at.lists.older) in
-          let line = acts Hold ((v + y) ∷ []) in
+          let line = hold_line (v + y) in
           let out : is_out (v + y) s.frame.held ≡ false = ap (is_out (v + y)) at.has.held_is
           ∙ held_out slots v y at.lists.held at.judged.spends.1.0 in
           let value : s.frame.cells (v + y) ≡ Some 0 = subst (λ slot. SlotIs s.address slot (s.frame.cells (v + y))) empty
@@ -140,7 +139,7 @@ module _ (program : Lowering) (y : ℕ) (rest : Tokened) where
           let n = length at.lists.older in
           let slots = tokens.slots (length at.lists.older) in
           let pooled = at.judged.are.pooled in
-          let line = acts Hold ((v + y) ∷ []) in
+          let line = hold_line (v + y) in
           let out : is_out (v + y) s.frame.held ≡ false = ap (is_out (v + y)) at.has.held_is
           ∙ held_out slots v y at.lists.held at.judged.spends.1.0 in
           let value : s.frame.cells (v + y) ≡ Some (s.address q) = subst (λ slot. SlotIs s.address slot (s.frame.cells (v + y))) has
@@ -200,10 +199,10 @@ module _ (program : Lowering) (y : ℕ) (rest : Tokened) where
   unhold_acts : (inner : List TokenJoin) (frames : List TokenFrame) (tokens : Tokens) (input : List ℕ) (s : Spot)
       (fs : List (Frame Line)) (left : List Line) (at : At program (Tokened.unhold y rest) inner frames tokens input s fs left)
       → ActsOnTokens program (Tokened.unhold y rest) inner frames tokens input s fs left at rest
-      (acts Unhold ((at.shape.variables + y) ∷ [])) at.does.placed.lines.0
+      (back_line (at.shape.variables + y)) at.does.placed.lines.0
   unhold_acts inner frames tokens input s fs left at =
       acts_by program (Tokened.unhold y rest) inner frames tokens input s fs left at rest
-      (acts Unhold ((at.shape.variables + y) ∷ [])) at.does.placed.lines refl refl
+      (back_line (at.shape.variables + y)) at.does.placed.lines refl refl
       (record { way = []; is_part = inl refl; code_is = refl }) at.does.placed.has.1 at.does.placed.keeps.1
 
   pub at_unhold : CodeSteps program (Tokened.unhold y rest)
@@ -223,7 +222,7 @@ module _ (program : Lowering) (y : ℕ) (rest : Tokened) where
           let v = at.shape.variables in
           let n = length at.lists.older in
           let slots = tokens.slots (length at.lists.older) in
-          let line = acts Unhold ((v + y) ∷ []) in
+          let line = back_line (v + y) in
           let step = tokens_step program (Tokened.unhold y rest) inner frames tokens input s fs left at rest
           (λ f. unheld f y tokens) tokens
           (by_null program.pool.cells None (Some tokens) (λ q. with_chain tokens (unlinked n y tokens.chain)) n y tokens empty) in
@@ -244,7 +243,8 @@ module _ (program : Lowering) (y : ℕ) (rest : Tokened) where
             cost = 9;
             steps = 1;
             within = omega arith;
-            runs = unhold_null_runs (target program) (p.lines.0 ++ p.after) s.frame fs s.world (v + y) value out;
+            runs = unhold_null_runs (target program) (p.lines.0 ++ p.after) s.frame fs s.world (Some (v + y)) (v + y) value
+                (put_itself (v + y) 0 s.frame.cells value) out;
             here = record { follows = at.follows; values = at.has.values };
             left = refl;
             whole = refl;
@@ -270,7 +270,7 @@ module _ (program : Lowering) (y : ℕ) (rest : Tokened) where
           let n = length at.lists.older in
           let slots = tokens.slots (length at.lists.older) in
           let pooled = at.judged.are.pooled in
-          let line = acts Unhold ((v + y) ∷ []) in
+          let line = back_line (v + y) in
           let older_held = at.judged.spends.0 in
           let held_eq : at.lists.held ≡ y ∷ older_held = at.judged.spends.1.0 in
           let fresh : is_among older_held y ≡ false = (subst AreApart held_eq at.judged.apart).0 in
@@ -315,8 +315,9 @@ module _ (program : Lowering) (y : ℕ) (rest : Tokened) where
             cost = 9;
             steps = 1;
             within = omega arith;
-            runs = unhold_runs (target program) (p.lines.0 ++ p.after) s.frame fs s.world (v + y) (s.address q)
-                (held_values slots v older_held) back.now value (λ e. omega arith) held_now back.is;
+            runs = unhold_runs (target program) (p.lines.0 ++ p.after) s.frame fs s.world (Some (v + y)) (v + y) (s.address q)
+                (held_values slots v older_held) back.now value (put_itself (v + y) (s.address q) s.frame.cells value)
+                (λ e. omega arith) held_now back.is;
             here = record { follows = back.holds; values = at.has.values };
             left = refl;
             whole = refl;

@@ -81,10 +81,17 @@ ConstructLines base x header arguments lines =
     × (lines ≡ record { action = Calls Take; args = []; into = Some x } ∷ sets header base ∷ head ∷
     (fields ++ sets 1 base ∷ count ∷ []))
 
+-- A token is held, which stands in its slot and in a register. Where it is read next, a register gets it again as it is taken back.
+abbrev pub hold_line : ℕ → Line
+hold_line token = acts Hold (token ∷ token ∷ [])
+
+abbrev pub back_line : ℕ → Line
+back_line token = record { action = Unhold; args = token ∷ []; into = Some token }
+
 -- Tokens are held, the first of them last. They are taken back from the first one on.
 abbrev pub hold_lines : List ℕ → List Line
 hold_lines [] = []
-hold_lines (token ∷ tokens) = hold_lines tokens ++ (acts Hold (token ∷ []) ∷ [])
+hold_lines (token ∷ tokens) = hold_lines tokens ++ (hold_line token ∷ [])
 
 abbrev pub unhold_lines : List ℕ → List Line
 unhold_lines [] = []

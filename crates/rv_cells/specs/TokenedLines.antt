@@ -13,7 +13,7 @@ use Rattle.kk_counted.specs.Marks.{CellMarks, IsMarked}
 use Rattle.kk_counted.specs.Spending.{numbers_from}
 use Rattle.kk_counted.specs.TokenLowerable.{most_slots, slots_in}
 use Rattle.kk_counted.specs.TokenedCodes.{Tokened, TokenedArms, TokenedFunction}
-use Rattle.rv_isa.specs.declared.asm.Action.TheVariants.{Compute, Label, Branch, TailCall, Hold, Unhold}
+use Rattle.rv_isa.specs.declared.asm.Action.TheVariants.{Compute, Label, Branch, TailCall}
 use Rattle.rv_isa.specs.declared.asm.Condition.TheVariants.{Equal}
 use Rattle.rv_isa.specs.declared.asm.Operation.TheVariants as Op
 use Rattle.rv_isa.specs.AsmCode.{Line, Lines}
@@ -24,7 +24,7 @@ use Rattle.rv_cells.specs.declared.standing.Standing.TheVariants.{Nothing, Count
 use Rattle.rv_cells.specs.Layout.{Layout, header_of}
 use Rattle.rv_cells.specs.declared.compare.Branching.{Branching}
 use Rattle.rv_cells.specs.ComparisonBranch.{branch_of, MayJoin}
-use Rattle.rv_cells.specs.CellLines.{FillLines, ReadLines, TokenUniqueLines, dup_lines, drop_lines}
+use Rattle.rv_cells.specs.CellLines.{FillLines, ReadLines, TokenUniqueLines, dup_lines, drop_lines, hold_line, back_line}
 use Rattle.rv_cells.specs.CountedLines.{Setting, ComputeLines, ways_of, NodesLines}
 
 -- ---- slots
@@ -210,10 +210,10 @@ abbrev mutual
       × (lines ≡ copies_to (variables + of) (variables + to) ∷ more)
   LinesBehind left setting variables goal low (Tokened.hold y rest) lines high =
       (more : List Line) × LinesBehind None setting variables goal low rest more high
-      × (lines ≡ acts Hold ((variables + y) ∷ []) ∷ more)
+      × (lines ≡ hold_line (variables + y) ∷ more)
   LinesBehind left setting variables goal low (Tokened.unhold y rest) lines high =
       (more : List Line) × LinesBehind None setting variables goal low rest more high
-      × (lines ≡ acts Unhold ((variables + y) ∷ []) ∷ more)
+      × (lines ≡ back_line (variables + y) ∷ more)
   LinesBehind left setting variables goal low (Tokened.if_token y there absent) lines high =
       (yes : List Line) × (no : List Line) × (middle : ℕ) × LinesBehind None setting variables goal (low + 1) there yes middle
       × LinesBehind None setting variables goal middle absent no high

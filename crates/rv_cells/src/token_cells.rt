@@ -1,11 +1,11 @@
 // The lines of the forms that touch tokens.
 
 ghost use Rattle.std.specs.Prelude.{◌≡◌, ◌+◌, [], ◌∷◌, IfOk, OnOk};
-ghost use Rattle.rv_isa.specs.declared.asm.Action.TheVariants.{Compute, Hold, Unhold};
+ghost use Rattle.rv_isa.specs.declared.asm.Action.TheVariants.{Compute};
 ghost use Rattle.rv_isa.specs.declared.asm.Operation.TheVariants.{Free};
 ghost use Rattle.rv_lower.specs.Lines.{sets, copies_to, acts};
 ghost use Rattle.rv_lower.specs.Written.{Wrote};
-ghost use Rattle.rv_cells.specs.CellLines.{hold_lines, unhold_lines};
+ghost use Rattle.rv_cells.specs.CellLines.{hold_line, back_line, hold_lines, unhold_lines};
 ghost use Rattle.rv_cells.specs.TokenedLines.{values_of_slots};
 ghost use Rattle.rv_cells.specs.TokenedWritten.{variables_known, request_lines, token_test_lines, WroteFill, WroteAsk};
 ghost use Rattle.rv_cells.specs.Written.{facts_of};
@@ -27,7 +27,7 @@ fn write_holds(lowering: &mut Lowering, tokens: &[u32]) -> Result<(), NoMemory>
         return Ok(());
     };
     write_holds(lowering, more)?;
-    lowering.write(&[act(Action::Hold, Reads::One(*token))])
+    lowering.write(&[act(Action::Hold, Reads::Two(*token, *token))])
 }
 
 /// Takes tokens back, from the first one on.
@@ -155,18 +155,18 @@ pub fn write_move(
 
 /// The token of a slot is held.
 pub fn write_hold(lowering: &mut Lowering, known: &Known<'_>, slot: u32) -> Result<(), NoMemory>
-    ensures { OnOk result (Wrote (acts Hold ((variables_known known.now + slot) ∷ []) ∷ []) lowering.old lowering.new) }
+    ensures { OnOk result (Wrote (hold_line (variables_known known.now + slot) ∷ []) lowering.old lowering.new) }
 {
     let token = known.slot(slot)?;
-    lowering.write(&[act(Action::Hold, Reads::One(token))])
+    lowering.write(&[act(Action::Hold, Reads::Two(token, token))])
 }
 
-/// The token of a slot is taken back.
+/// The token of a slot is taken back, and a register gets it.
 pub fn write_unhold(lowering: &mut Lowering, known: &Known<'_>, slot: u32) -> Result<(), NoMemory>
-    ensures { OnOk result (Wrote (acts Unhold ((variables_known known.now + slot) ∷ []) ∷ []) lowering.old lowering.new) }
+    ensures { OnOk result (Wrote (back_line (variables_known known.now + slot) ∷ []) lowering.old lowering.new) }
 {
     let token = known.slot(slot)?;
-    lowering.write(&[act(Action::Unhold, Reads::One(token))])
+    lowering.push(Action::Unhold, &[token], Some(token))
 }
 
 /// A first variable and others in one list.
