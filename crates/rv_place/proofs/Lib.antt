@@ -14,6 +14,7 @@ pub mod CellSimulation
 pub mod JumpSimulation
 pub mod RoutineSimulation
 pub mod TokenSimulation
+pub mod TokenWords
 pub mod ProcessorSimulation
 pub mod BootAgreements
 pub mod BootBytes

@@ -15,7 +15,7 @@ use Rattle.rv_isa.specs.declared.placed.Operand.{Operand}
 use Rattle.rv_isa.specs.declared.placed.Listed.{Listed}
 use Rattle.rv_isa.specs.declared.placed.Place.{Place}
 use Rattle.rv_isa.specs.declared.placed.Place.TheVariants.{Register as register, Slot as slot}
-use Rattle.rv_isa.specs.PlacedMachine.{only_slot, slot_of}
+use Rattle.rv_isa.specs.PlacedMachine.{first_slot, slot_of}
 use Rattle.rv_isa.specs.declared.placed.Way.{Way}
 use Rattle.rv_isa.specs.declared.placed.Symbol.{Symbol}
 use Rattle.rv_isa.specs.declared.placed.Symbol.TheVariants as symbol
@@ -27,7 +27,7 @@ use Rattle.rv_place.specs.Registers.{s3}
 use Rattle.rv_place.specs.Instructions.{words_of_jump, JumpsTo, CallsTo, BranchesOn, HoldsToken, words_to_hold, UnholdsToken, words_of_operation}
 use Rattle.rv_isa.specs.FrameSizes.{slots_of_place, slots_of_operands}
 use Rattle.rv_place.specs.Addresses.{branch_words, is_at_pointer, slot_offset, way_offset, words_of_shift, words_of_action, words_of_line, words_of_lines, forms_of, takes_frame, words_to_frame, entry_words, skipped_words, entries_from, words_of_function, words_of_functions}
-use Rattle.rv_place.specs.Lines.{Map, IsFromPointer, IsOffsetOf, OnToken, IsSymbolAt, frame_register, BeginsAt, LinesAt, FunctionsAt, BranchesTo}
+use Rattle.rv_place.specs.Lines.{Map, IsFromPointer, IsOffsetOf, token_into, OnToken, IsSymbolAt, frame_register, BeginsAt, LinesAt, FunctionsAt, BranchesTo}
 use Rattle.rv_place.specs.declared.reach.Forms.{Forms}
 use Rattle.rv_place.specs.declared.reach.Reach.{Reach}
 use Rattle.rv_place.specs.declared.reach.Reach.TheVariants.{Near, Far}
@@ -37,7 +37,7 @@ use Rattle.rv_place.specs.Emitted.{Grew, TokenBy, Charts, JumpReaches, BranchRea
 use Rattle.rv_place.proofs.Emissions.{grew_so, grew_then}
 use Rattle.rv_place.proofs.NearJumps.{short_function, jump_reaches, text_reaches, label_reaches, branch_reaches, function_front, function_back, text_front, text_back}
 use Rattle.rv_place.proofs.JumpInstructions.{BranchGrew}
-use Rattle.rv_place.proofs.Operands.{register_in, operand_register}
+use Rattle.rv_place.proofs.Operands.{register_in, operand_register, register_of_into}
 
 -- a branch on the registers of its arguments, one or two
 branches_to : (forms : Forms) (code : Code) (at : ℕ) (condition : Condition) (registers : List Register) (target : ℕ)
@@ -55,17 +55,16 @@ skipped_most jumps false true = omega arith
 skipped_most jumps false false = omega arith
 
 -- the slot of a token is within a frame
-token_slot : (args : List Operand) (k : ℕ) → only_slot args ≡ Some k → k + 1 ≤ slots_of_operands args
+token_slot : (args : List Operand) (k : ℕ) → first_slot args ≡ Some k → k + 1 ≤ slots_of_operands args
 token_slot [] k is = cc
-token_slot (arg ∷ other ∷ more) k is = cc
-token_slot (arg ∷ []) k is = by arg.place refl is
+token_slot (arg ∷ args) k is = by arg.place refl is
   where
-    by : (place : Place) → arg.place ≡ place → slot_of place ≡ Some k → k + 1 ≤ max (slots_of_place arg.place) 0
+    by : (place : Place) → arg.place ≡ place → slot_of place ≡ Some k → k + 1 ≤ max (slots_of_place arg.place) (slots_of_operands args)
     by (register r) at same = cc
     by (slot j) at same = let e : j ≡ k = cc in rw at (omega arith)
 
 -- the slot of a token in a frame of the map
-slot_from : {chart : Chart} {map : Map} → Charts chart map → (jumps : Reach) → jumps ≡ map.jumps → (args : List Operand) → 4 * slots_of_operands args + 4 ≤ chart.frame → (k : ℕ) → only_slot args ≡ Some k
+slot_from : {chart : Chart} {map : Map} → Charts chart map → (jumps : Reach) → jumps ≡ map.jumps → (args : List Operand) → 4 * slots_of_operands args + 4 ≤ chart.frame → (k : ℕ) → first_slot args ≡ Some k
     → (offset : Immediate) → IsFromPointer jumps (slot_offset k) offset → IsOffsetOf map k offset
 slot_from {chart} {map} charts jumps same args inside k slot_is offset offset_is =
     let room : slot_offset k + 4 ≤ way_offset chart.frame = omega (arith, token_slot args k slot_is, inside) in
@@ -170,19 +169,26 @@ module _ (chart : Chart) (labels : Labels) (from : ℕ) (args : List Operand) (i
         (text_reaches charts inside target (omega (arith, target_is, charts.first_word)) (omega (arith, target_is)) (omega (arith, target_is, high))))
         emitted)
 
-    pub on_hold : action ≡ Hold → 4 * slots_of_operands args + 4 ≤ chart.frame → Grew (words_to_hold (is_at_pointer jumps args)) (TokenBy (HoldsToken (is_at_pointer jumps args)) jumps args) old new
+    pub on_hold : {token : Register} → action ≡ Hold → token ≡ register_or_zero (slice_get args 1) → 4 * slots_of_operands args + 4 ≤ chart.frame
+        → Grew (words_to_hold (is_at_pointer jumps args)) (TokenBy (HoldsToken (is_at_pointer jumps args) token) jumps args) old new
         → Acted old new action
-    on_hold is inside emitted =
+    on_hold {token} is token_is inside emitted =
         subst (Acted old new) (sym is)
         (grew_so refl
-        (λ code at here is_at map charts start whole has within. on_token (HoldsToken (is_at_pointer jumps args)) code at charts within.jumps inside here) emitted)
+        (λ code at here is_at map charts start whole has within goal goes.
+        subst (λ r. OnToken (HoldsToken (is_at_pointer jumps args) r) map code at args) (token_is ∙ register_of_into (slice_get args 1) goal goes)
+        (on_token (HoldsToken (is_at_pointer jumps args) token) code at charts within.jumps inside here))
+        emitted)
 
-    pub on_unhold : action ≡ Unhold → 4 * slots_of_operands args + 4 ≤ chart.frame → Grew 3 (TokenBy UnholdsToken jumps args) old new
-        → Acted old new action
-    on_unhold is inside emitted =
+    pub on_unhold : {token : Register} → action ≡ Unhold → ((goal : Register) → token_into into ≡ Some goal → token ≡ goal) → 4 * slots_of_operands args + 4 ≤ chart.frame
+        → Grew 3 (TokenBy (UnholdsToken token) jumps args) old new → Acted old new action
+    on_unhold {token} is token_is inside emitted =
         subst (Acted old new) (sym is)
         (grew_so refl
-        (λ code at here is_at map charts start whole has within. on_token UnholdsToken code at charts within.jumps inside here) emitted)
+        (λ code at here is_at map charts start whole has within goal goes.
+        subst (λ r. OnToken (UnholdsToken r) map code at args) (token_is goal goes)
+        (on_token (UnholdsToken token) code at charts within.jumps inside here))
+        emitted)
 
 -- the branch of an entry, to the stop for a full stack
 pub entry_branch : {chart : Chart} {map : Map} → Charts chart map → (code : Code) (at target from : ℕ) → at ≡ from → IsInText map at (entry_words map.jumps)

@@ -108,11 +108,13 @@ module _ {map_of : Map} {pool : Pool} {functions : List PlacedLines} {depth buff
           let line = does alive Hold args into in
           follow_hold ground f fs known world s running rest (suc (length rest)) (line_takes running.frames.0 line rest code_is refl) args into words turn good words_are
           (ap (λ (forms : Forms). forms.jumps) running.frames.0.forms_are)
-          (λ next next_is below. goes_behind running.frames.0 line rest code_is next (record f { code = rest }) refl refl refl (loud_words Hold loud ∙ next_is) below) (line_at running.frames.0 line rest code_is loud) is
+          (λ next next_is below. goes_behind running.frames.0 line rest code_is next (record f { code = rest }) refl refl refl (loud_words Hold loud ∙ next_is) below) conform (line_at running.frames.0 line rest code_is loud) is
       follow_action Unhold code_is conform loud is =
           let line = does alive Unhold args into in
+          let writes = line_plain running.frames.0 line rest code_is in
           follow_unhold ground f fs known world s running rest (suc (length rest)) (line_takes running.frames.0 line rest code_is refl) args into words turn good words_are
-          (λ next next_is below. goes_behind running.frames.0 line rest code_is next (record f { code = rest }) refl refl refl (loud_words Unhold loud ∙ next_is) below) (line_at running.frames.0 line rest code_is loud) is
+          (λ next next_is below. goes_behind running.frames.0 line rest code_is next (record f { code = rest }) refl refl refl (loud_words Unhold loud ∙ next_is) below)
+          conform (gives_target Unhold args into writes.0 loud) (line_at running.frames.0 line rest code_is loud) is
 
       -- or what it does without an instruction
       follow_statement : (silent : Bool) (action : Action) → is_silent action args into ≡ silent → f.code ≡ does alive action args into ∷ rest → conforms action args into ≡ true

@@ -15,7 +15,7 @@ use Rattle.rv_isa.specs.declared.placed.Place.TheVariants.{Register as register,
 use Rattle.rv_isa.specs.declared.placed.Operand.{Operand}
 use Rattle.rv_isa.specs.declared.placed.Symbol.{Symbol}
 use Rattle.rv_isa.specs.PlacedCode.{PlacedLine, does, moves, PlacedLines}
-use Rattle.rv_isa.specs.PlacedMachine.{is_label_line, only_slot}
+use Rattle.rv_isa.specs.PlacedMachine.{is_label_line, first_slot}
 use Rattle.rv_isa.specs.Conventions.{is_idle}
 use Rattle.rv_isa.specs.LinePlaces.{is_copy}
 use Rattle.rv_isa.specs.Sizes.{reach_down, narrow_frame, wide_frame}
@@ -31,14 +31,15 @@ abbrev pub operation_links : Operation → Bool
 operation_links Dup = true
 operation_links _ = false
 
--- whether an action writes ra: a call has the way back in it, and a token that is held or taken back stands in it for a while
-abbrev pub action_links : Action → Bool
-action_links (Compute operation) = operation_links operation
-action_links (Call f) = true
-action_links (Routine routine) = true
-action_links Hold = true
-action_links Unhold = true
-action_links _ = false
+-- whether an action writes ra, as a call does, which has the way back in it, or has a slot: a token is held in one, and taken back
+-- from it
+abbrev pub action_needs_frame : Action → Bool
+action_needs_frame (Compute operation) = operation_links operation
+action_needs_frame (Call f) = true
+action_needs_frame (Routine routine) = true
+action_needs_frame Hold = true
+action_needs_frame Unhold = true
+action_needs_frame _ = false
 
 -- whether a move has a slot
 abbrev pub has_slot : Way → Bool
@@ -48,7 +49,7 @@ has_slot (Store from to) = true
 
 -- whether a line needs a frame: one that has a slot, or that writes ra
 abbrev pub needs_frame : PlacedLine → Bool
-needs_frame (does alive action args into) = action_links action
+needs_frame (does alive action args into) = action_needs_frame action
 needs_frame (moves alive value way) = has_slot way
 
 -- A function takes a frame where one of its lines needs it. Where jumps are not near, which may write ra, each function takes one.
@@ -88,7 +89,7 @@ is_pointer_slot jumps (Some k) = k == pointer_slot jumps
 
 -- whether the token that an action holds is in that slot
 abbrev pub is_at_pointer : Reach → List Operand → Bool
-is_at_pointer jumps args = is_pointer_slot jumps (only_slot args)
+is_at_pointer jumps args = is_pointer_slot jumps (first_slot args)
 
 -- how many instructions an action is, by the forms of jumps and branches
 abbrev pub words_of_action : Forms → Action → List Operand → ℕ

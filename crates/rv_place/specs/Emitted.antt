@@ -28,7 +28,7 @@ use Rattle.rv_place.specs.Addresses.{IsBehind, label_address}
 use Rattle.rv_place.specs.Lines.{Map, IsFromPointer, ShiftsStack, ActsAt, LineAt, LinesAt, FunctionAt, FunctionsAt, BeginsAt}
 use Rattle.rv_place.specs.Lines.{MovesBy, ReturnsBy, registers_of, register_into}
 use Rattle.rv_place.specs.Registers.{zero_register, ra, sp}
-use Rattle.rv_isa.specs.PlacedMachine.{only_slot}
+use Rattle.rv_isa.specs.PlacedMachine.{first_slot}
 use Rattle.rv_place.specs.Instructions.{Computes}
 use Rattle.rv_place.specs.declared.chart.Chart.{Chart}
 use Rattle.rv_place.specs.declared.labels.Labels.{Labels}
@@ -149,7 +149,7 @@ HasLabels labels start whole = (l : ℕ) → get nat_cmp labels.addresses l ≡ 
 -- what was emitted for an action on the token of a slot, by the slot's offset
 abbrev pub TokenBy : (Code → ℕ → Immediate → Type 0) → Reach → List Operand → Code → ℕ → Type 0
 TokenBy Stands jumps args code at =
-    (k : ℕ) → only_slot args ≡ Some k → (offset : Immediate) × IsFromPointer jumps (slot_offset k) offset × Stands code at offset
+    (k : ℕ) → first_slot args ≡ Some k → (offset : Immediate) × IsFromPointer jumps (slot_offset k) offset × Stands code at offset
 
 -- code of each kind that was emitted for an address, `from`, by every map that the chart is of; lines are those of a function
 -- that has these labels

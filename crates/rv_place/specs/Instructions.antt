@@ -162,42 +162,41 @@ FreesToken code at a =
     (over : BranchOffset) × (zero : Immediate) × (over.word ≡ 12) × Zero zero
     × Has code at (Instr.Beq a zero_register over ∷ Instr.Sw a s0 zero ∷ Instr.Addi s0 a zero ∷ [])
 
--- The second word of the token in ra is the address of its slot. Where that is the stack pointer, it is stored as it is; else s1
--- is set to it first.
-abbrev pub NamesSlot : Bool → Code → ℕ → Immediate → Type 0
-NamesSlot true code at slot = (second : Immediate) × (second.word ≡ 4) × (code at ≡ Some (Instr.Sw ra sp second))
-NamesSlot false code at slot =
-    (second : Immediate) × (second.word ≡ 4) × Has code at (Instr.Addi s1 sp slot ∷ Instr.Sw ra s1 second ∷ [])
+-- The second word of the token in a register is the address of its slot. Where that is the stack pointer, it is stored as it is;
+-- else s1 is set to it first.
+abbrev pub NamesSlot : Bool → Register → Code → ℕ → Immediate → Type 0
+NamesSlot true token code at slot = (second : Immediate) × (second.word ≡ 4) × (code at ≡ Some (Instr.Sw token sp second))
+NamesSlot false token code at slot =
+    (second : Immediate) × (second.word ≡ 4) × Has code at (Instr.Addi s1 sp slot ∷ Instr.Sw token s1 second ∷ [])
 
 -- how many instructions that is
 abbrev pub words_to_name : Bool → ℕ
 words_to_name true = 1
 words_to_name false = 2
 
--- The token in ra becomes the newest held one: its first word is the one that was held before it, its second the address of its
--- slot, and s1 is its own address.
-abbrev pub LinksToken : Bool → Code → ℕ → Immediate → Type 0
-LinksToken at_pointer code at slot =
-    (zero : Immediate) × Zero zero × (code at ≡ Some (Instr.Sw ra s1 zero)) × NamesSlot at_pointer code (at + 4) slot
-    × (code (at + 4 + 4 * words_to_name at_pointer) ≡ Some (Instr.Addi s1 ra zero))
+-- The token in a register becomes the newest held one: its first word is the one that was held before it, its second the address
+-- of its slot, and s1 is its own address.
+abbrev pub LinksToken : Bool → Register → Code → ℕ → Immediate → Type 0
+LinksToken at_pointer token code at slot =
+    (zero : Immediate) × Zero zero × (code at ≡ Some (Instr.Sw token s1 zero)) × NamesSlot at_pointer token code (at + 4) slot
+    × (code (at + 4 + 4 * words_to_name at_pointer) ≡ Some (Instr.Addi s1 token zero))
 
--- The token in a slot is held: it is loaded to ra. A branch leads over the rest where the slot has none.
-abbrev pub HoldsToken : Bool → Code → ℕ → Immediate → Type 0
-HoldsToken at_pointer code at slot =
-    (over : BranchOffset) × (over.word ≡ 12 + 4 * words_to_name at_pointer) × (code at ≡ Some (Instr.Lw ra sp slot))
-    × (code (at + 4) ≡ Some (Instr.Beq ra zero_register over)) × LinksToken at_pointer code (at + 4 + 4) slot
+-- The token in a register, which its slot has too, is held. A branch leads over this where it is null.
+abbrev pub HoldsToken : Bool → Register → Code → ℕ → Immediate → Type 0
+HoldsToken at_pointer token code at slot =
+    (over : BranchOffset) × (over.word ≡ 12 + 4 * words_to_name at_pointer) × (code at ≡ Some (Instr.Beq token zero_register over))
+    × LinksToken at_pointer token code (at + 4) slot
 
 -- how many instructions that is
 abbrev pub words_to_hold : Bool → ℕ
-words_to_hold at_pointer = 3 + words_to_name at_pointer + 1
+words_to_hold at_pointer = 2 + words_to_name at_pointer + 1
 
--- The newest held token is taken back from its slot: it is loaded to ra, and its first word, the address of the one that was
--- held before it, goes to
--- s1. A branch leads over this where the slot has none.
-abbrev pub UnholdsToken : Code → ℕ → Immediate → Type 0
-UnholdsToken code at slot =
+-- The newest held token is taken back from its slot: it is loaded to a register, and its first word, the address of the one that
+-- was held before it, goes to s1. A branch leads over this where the slot has none.
+abbrev pub UnholdsToken : Register → Code → ℕ → Immediate → Type 0
+UnholdsToken token code at slot =
     (over : BranchOffset) × (zero : Immediate) × (over.word ≡ 8) × Zero zero
-    × Has code at (Instr.Lw ra sp slot ∷ Instr.Beq ra zero_register over ∷ Instr.Lw s1 ra zero ∷ [])
+    × Has code at (Instr.Lw token sp slot ∷ Instr.Beq token zero_register over ∷ Instr.Lw s1 token zero ∷ [])
 
 -- an operation whose arguments are in registers, and whose result goes to one. One with another number of arguments is none.
 abbrev pub Computes : Constants → Code → ℕ → Operation → List Register → Register → Type 0

@@ -18,7 +18,7 @@ use Rattle.rv_isa.specs.declared.placed.Symbol.TheVariants as symbol
 use Rattle.rv_isa.specs.declared.placed.Way.{Way}
 use Rattle.rv_isa.specs.declared.placed.Way.TheVariants.{Copy, Load, Store}
 use Rattle.rv_isa.specs.PlacedCode.{PlacedLine, does, moves, PlacedLines}
-use Rattle.rv_isa.specs.PlacedMachine.{only_slot}
+use Rattle.rv_isa.specs.PlacedMachine.{first_slot}
 use Rattle.rv_isa.specs.Arithmetic.{sum_word}
 use Rattle.rv_isa.specs.Sizes.{reach_down}
 use Rattle.rv_isa.specs.Standing.{Code, Has}
@@ -64,6 +64,15 @@ register_into (Some operand) = register_at operand.place
     register_at : Place → Option Register
     register_at (register r) = Some r
     register_at (slot k) = None
+
+-- the register of a token that is held: that of the second argument
+abbrev pub token_from : List Operand → Option Register
+token_from args = register_into (slice_get args 1)
+
+-- the register that a token is taken back to: ra where it is not given
+abbrev pub token_into : Option Operand → Option Register
+token_into None = Some ra
+token_into (Some operand) = register_into (Some operand)
 
 -- what a symbol of the runtime stands for, if it is there: an address
 abbrev pub IsSymbolAt : Map → Symbol → ℕ → Type 0
@@ -120,7 +129,7 @@ ReturnsBy false map code at = GoesBack code at
 -- what stands for an action on the token of a slot, by the slot's offset
 abbrev pub OnToken : (Code → ℕ → Immediate → Type 0) → Map → Code → ℕ → List Operand → Type 0
 OnToken Stands map code at args =
-    (k : ℕ) → only_slot args ≡ Some k → (offset : Immediate) × IsOffsetOf map k offset × Stands code at offset
+    (k : ℕ) → first_slot args ≡ Some k → (offset : Immediate) × IsOffsetOf map k offset × Stands code at offset
 
 -- What stands at an address for an action of a function of these forms whose lines, `whole`, stand at `start`. Of what is none,
 -- as a jump to a label that is
@@ -140,8 +149,10 @@ ActsAt map forms code start whole at (TailCall f) args into =
     → JumpsTo forms.jumps code at (entry + 4 * skipped_words map.jumps forms.frame takes)
 ActsAt map forms code start whole at Return args into = ReturnsBy forms.frame map code at
 ActsAt map forms code start whole at (Routine routine) args into = (target : ℕ) → IsSymbolAt map (symbol.Routine routine) target → CallsTo forms.jumps code at target
-ActsAt map forms code start whole at Hold args into = OnToken (HoldsToken (is_at_pointer forms.jumps args)) map code at args
-ActsAt map forms code start whole at Unhold args into = OnToken UnholdsToken map code at args
+ActsAt map forms code start whole at Hold args into =
+    (token : Register) → token_from args ≡ Some token → OnToken (HoldsToken (is_at_pointer forms.jumps args) token) map code at args
+ActsAt map forms code start whole at Unhold args into =
+    (token : Register) → token_into into ≡ Some token → OnToken (UnholdsToken token) map code at args
 
 -- of what is no instruction nothing is said
 abbrev pub LineAt : Map → Forms → Code → ℕ → List PlacedLine → ℕ → PlacedLine → Type 0

@@ -10,7 +10,7 @@ ghost use Rattle.rv_place.specs.Addresses.{is_silent, words_of_action, words_of_
 ghost use Rattle.rv_place.specs.Texts.{most_text_length, most_functions, most_runtime_words, greatest_address};
 ghost use Rattle.rv_place.specs.Emitted.{Grew, ActionBy, LineBy, LinesBy, FunctionBy, FunctionsBy};
 
-use crate::cells::{emit_hold, emit_unhold};
+use crate::cells::{emit_hold, emit_unhold, token_into};
 use crate::chart::Chart;
 use crate::emit::{emit_branch, emit_call, emit_entry, emit_jump, emit_move, emit_return};
 use crate::labels::Labels;
@@ -60,8 +60,8 @@ fn emit_action(
         }
         Action::Return => emit_return(code, chart, labels.forms.frame),
         Action::Routine(routine) => { emit_call(code, at, jumps, chart.symbols.routine(routine)) }
-        Action::Hold => emit_hold(code, jumps, args),
-        Action::Unhold => emit_unhold(code, jumps, args),
+        Action::Hold => emit_hold(code, jumps, args, argument(args, 1)),
+        Action::Unhold => emit_unhold(code, jumps, args, token_into(into)),
     }
 }
 

@@ -84,13 +84,13 @@ impl Reach {
     pub fn is_at_pointer(self, args: &[Operand]) -> bool
         ensures { result ≡ is_at_pointer self args.now }
     {
-        match args {
-            [
+        match args.first() {
+            Some(
                 Operand {
                     place: Place::Slot(slot),
                     ..
                 },
-            ] => *slot == self.pointer_slot(),
+            ) => *slot == self.pointer_slot(),
             _ => false,
         }
     }
@@ -98,9 +98,9 @@ impl Reach {
     /// How many instructions hold a token: where its slot's address is the stack pointer, one less.
     pub fn words_to_hold(self, args: &[Operand]) -> u32
         ensures words { result ≡ words_to_hold (is_at_pointer self args.now) }
-        ensures few { result ≤ 6 }
+        ensures few { result ≤ 5 }
     {
-        4 + words_to_name(self.is_at_pointer(args))
+        3 + words_to_name(self.is_at_pointer(args))
     }
 
     /// How many instructions give the address of the newest frame: none where the stack pointer is at its first word.

@@ -9,7 +9,7 @@ ghost use Rattle.cell_runtime.specs.Operations.{all_bytes};
 ghost use Rattle.cell_runtime.specs.Lines.{words_of};
 ghost use Rattle.rv_place.specs.Instructions.{words_of_operation};
 ghost use Rattle.rv_isa.specs.LinePlaces.{is_copy};
-ghost use Rattle.rv_place.specs.Addresses.{operation_links, action_links, has_slot, needs_frame, takes_frame, is_same_register, stands_there, gives_idly, is_silent, words_of_action, words_of_line, words_of_lines, words_of_function, words_of_functions, most_entry_words, forms_of};
+ghost use Rattle.rv_place.specs.Addresses.{operation_links, action_needs_frame, has_slot, needs_frame, takes_frame, is_same_register, stands_there, gives_idly, is_silent, words_of_action, words_of_line, words_of_lines, words_of_function, words_of_functions, most_entry_words, forms_of};
 ghost use Rattle.rv_place.specs.Texts.{most_text_length, most_functions, most_runtime_words, most_constant_bytes};
 
 use crate::chart::words_of_native;
@@ -144,9 +144,9 @@ fn operation_links(operation: Operation) -> bool
     }
 }
 
-/// Whether an action writes `ra`.
-fn action_links(action: Action) -> bool
-    ensures { result ≡ action_links action }
+/// Whether an action writes `ra`, or has a slot.
+fn action_needs_frame(action: Action) -> bool
+    ensures { result ≡ action_needs_frame action }
 {
     match action {
         Action::Compute(operation) => operation_links(operation),
@@ -174,7 +174,7 @@ fn needs_frame(item: &Item) -> bool
     ensures { result ≡ needs_frame (placed_line_of item.now) }
 {
     match item {
-        Item::Does { action, .. } => action_links(*action),
+        Item::Does { action, .. } => action_needs_frame(*action),
         Item::Moves { way, .. } => has_slot(*way),
     }
 }

@@ -47,11 +47,11 @@ returns-in-Routine c =
 pub returns-in-Hold : goal.returns-in-Hold
 returns-in-Hold c =
     on_so c.emit_hold.result
-    (on_hold c.args.chart.now c.args.labels.now c.args.at c.args.args.now c.args.into c.in-Hold.is c.requires.slots)
+    (on_hold c.args.chart.now c.args.labels.now c.args.at c.args.args.now c.args.into c.in-Hold.is c.argument-in-Hold.ensures c.requires.slots)
     c.emit_hold.ensures
 
 pub returns-in-Unhold : goal.returns-in-Unhold
 returns-in-Unhold c =
     on_so c.emit_unhold.result
-    (on_unhold c.args.chart.now c.args.labels.now c.args.at c.args.args.now c.args.into c.in-Unhold.is c.requires.slots)
+    (on_unhold c.args.chart.now c.args.labels.now c.args.at c.args.args.now c.args.into c.in-Unhold.is c.token_into.ensures c.requires.slots)
     c.emit_unhold.ensures
