@@ -68,9 +68,11 @@ use Rattle.rv_place.specs.Texts.{ArePlaceable, ArePlacedWords, map_of, pool_in, 
 use Rattle.rv_place.specs.Texts.{most_text_length, most_functions, most_text_words, most_constant_bytes}
 use Rattle.rv_place.proofs.BootFits.{FitsImage, fits-image}
 use Rattle.rv_place.proofs.BootMemory.{text-fetched}
-use Rattle.rv_place.proofs.BootSizes.{bytes_most}
+use Rattle.rv_place.proofs.BootRuns.{image-ground}
+use Rattle.rv_place.proofs.BootSizes.{bytes_most, text_size}
 use Rattle.rv_place.specs.declared.words.Words.{Words}
 use Rattle.kk_back.specs.Assembled.{IsPlaceable, HasHeldFrames, IsAsmImage}
+use Rattle.kk_back.specs.Memory.{FillMemory, frames_end}
 use Rattle.kk_back.specs.Sizes.{most_asm_bytes}
 use Rattle.kk_back.proofs.RotatedCode.{slots_below, all_plain, as_many_rotated, opposes, computes_alone}
 use Rattle.kk_back.proofs.FrameSizes.{frame_most, as_many}
@@ -350,6 +352,28 @@ module _ {cells depth : ℕ} {asm : Asm} {placed looped runtime : Placed} {words
       let rotated = rotated_callee (placed_functions placed) (placed_functions looped) 0 there.0 makes.loops.rotated there.1 in
       (rotated.0, image_by rotated.0 rotated.1)
 
+  -- ---- the memory
+
+  -- the bytes of a frame
+  abbrev frame : ℕ
+  frame = frame_size (placed_functions looped)
+
+  -- the frames end where those end that begin behind the cells
+  stack_is : stack_end (map_of runtime looped) depth ≡ frames_end pool depth frame
+  stack_is = ap (λ bottom. bottom + depth * frame) (sym (image-ground some_image.1).cells_below)
+
+  -- the cells and the frames fill the memory behind the text
+  pub fills : (parts : List Part) → parts ≡ program_parts text runtime.memory.size → FillMemory pool depth frame parts
+  fills parts parts_are =
+      let size : length text ≡ text_bytes runtime looped = text_size makes.words_are makes.text_is in
+      record {
+        first = ap (λ n. memory_start n + bytes_before_cells)
+            (sym size ∙ ap (λ (p : List Part). length (text_of p)) (sym parts_are));
+        size = ap memory_size_of parts_are ∙ ap (λ (memory : DataSection). memory.size) makes.runtime_is.memory;
+      }
+
+  -- ---- lines
+
   pub lines_are_apart : PlacedTextComes → (f k g j : ℕ) → AsmHasOwnLine (asm_functions asm) f k
       → AsmHasOwnLine (asm_functions asm) g j → address f k ≡ address g j → (f ≡ g) × (k ≡ j)
   lines_are_apart text_comes f k g j has other same =
@@ -477,7 +501,7 @@ module _ {cells depth : ℕ} {asm : Asm} {placed looped runtime : Placed} {words
     pub follows : PlacedTextComes → (n : ℕ) (high : AsmState World) → state asm_runs n asm_begins ≡ go high
         → (count : ℕ) × ((s : Processor) × ((run count (first_processor text runtime.memory.size input) ≡ goes s)
         × ((trace (processor_machine rv32im) count (goes (first_processor text runtime.memory.size input)) ≡ trace asm_runs n asm_begins)
-        × HasHeldFrames pool (map_of runtime looped).frame (stack_end (map_of runtime looped) depth) high s)))
+        × HasHeldFrames pool frame (frames_end pool depth frame) high s)))
     follows text_comes n high is =
         let each = follows_each_state (primitives constants pool) depth (asm_functions asm) (placed_functions placed) main
         (first_world pool input) makes.valid.functions makes.made.main_is makes.made.main_params never in
@@ -500,13 +524,14 @@ module _ {cells depth : ℕ} {asm : Asm} {placed looped runtime : Placed} {words
         let links = last.1.1.0 in
         let cells_held : HoldsCells pool high.shared.cells links low.1.0
         = subst (λ (w : World). HoldsCells pool w.cells links low.1.0) (on_constants.1.1 ∙ there.1.1.1.1.0) last.1.1.1.0 in
-        let size = (map_of runtime looped).frame in
-        let end = stack_end (map_of runtime looped) depth in
-        let placed_held : AreHeld size end there.1.0.frames links
-        = held_before_rotation size end (placed_functions placed) (placed_functions looped) there.1.0.frames middle.frames
-        further.1.1.1.1.1 links last.1.1.1.1 in
-        let held : AreHeld size end high.frames links
-        = held_before_places size end there.1.0.registers high.frames there.1.0.frames there.1.1.1.1.1 links placed_held in
+        let end = frames_end pool depth frame in
+        let looped_held : AreHeld frame end middle.frames links
+        = subst (λ (e : ℕ). AreHeld frame e middle.frames links) stack_is last.1.1.1.1 in
+        let placed_held : AreHeld frame end there.1.0.frames links
+        = held_before_rotation frame end (placed_functions placed) (placed_functions looped) there.1.0.frames middle.frames
+        further.1.1.1.1.1 links looped_held in
+        let held : AreHeld frame end high.frames links
+        = held_before_places frame end there.1.0.registers high.frames there.1.0.frames there.1.1.1.1.1 links placed_held in
         (low.0, (low.1.0, (last.0, (last.1.0 ∙ on_constants.1.0 ∙ there.1.1.1.0, (links, (cells_held, held))))))
 
     -- the rotated code of the first function
@@ -656,8 +681,8 @@ image_of {cells} {depth} {asm} {placed} {looped} {runtime} {words} {text} makes 
           subst (λ (e : ℕ). TouchesNoFreeCell e runtime_words cells (run count (start (memory_of parts) entry input))) (sym entry_is) on_text;
       lines = record {
         address = address makes;
-        frame = (map_of runtime looped).frame;
-        stack = stack_end (map_of runtime looped) depth;
+        frame = frame makes;
+        fill = fills makes parts parts_are;
         apart = lines_are_apart makes text_comes;
         outside = λ f k has.
             subst (λ (e : ℕ). e + 4 * runtime_words ≤ address makes f k) (sym entry_is) (lines_are_outside makes text_comes f k has);
@@ -678,7 +703,7 @@ image_of {cells} {depth} {asm} {placed} {looped} {runtime} {words} {text} makes 
               subst (λ (begun : _). (s : Processor) × ((run whole.0 (begun input) ≡ goes s)
                   × ((trace (processor_machine rv32im) whole.0 (goes (begun input))
                   ≡ trace (asm_runs makes input bytes never) n (asm_begins makes input bytes never))
-                  × HasHeldFrames (pool makes) (map_of runtime looped).frame (stack_end (map_of runtime looped) depth) high s)))
+                  × HasHeldFrames (pool makes) (frame makes) (frames_end (pool makes) depth (frame makes)) high s)))
                   (sym there) whole.1,
             );
       };

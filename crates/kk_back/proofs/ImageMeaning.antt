@@ -18,7 +18,6 @@ use Rattle.elf_image.specs.Program.{IsProgramImage, text_of}
 use Rattle.elf_image.specs.declared.part.Part.{Part}
 use Rattle.rv_isa.specs.AsmCode.{Lines}
 use Rattle.rv_isa.specs.AsmMachine.{asm_machine, asm_start}
-use Rattle.rv_isa.specs.Costs as Costs
 use Rattle.rv_isa.specs.Execution.{rv32im, run}
 use Rattle.rv_isa.specs.Primitives.{stuck}
 use Rattle.rv_isa.specs.Processor.{start, goes}
@@ -45,6 +44,7 @@ use Rattle.kk_back.specs.Sizes.{FitsText, most_text_bytes}
 use Rattle.kk_back.proofs.ImageLayers.{same_some}
 use Rattle.kk_back.proofs.FreeCells.{all_are_free}
 use Rattle.kk_back.proofs.OwnAddresses.{own_addresses}
+use Rattle.kk_back.proofs.TokenRooms.{greatest_room, has_enough}
 use Rattle.kk_back.proofs.TokenStates.{comes_to_states}
 
 no_params : (names : List ℕ) (n : ℕ) → names ≡ from_to 0 n → n ≡ 0 → names ≡ []
@@ -188,13 +188,18 @@ module _ (shape : Shape) (code : TokenedProgram) (functions : List Lines) (texts
           touches_no_free = λ input bytes. image.touches_no_free input bytes (never input bytes);
         }
 
+      -- a room that is enough for the tokens
+      abbrev most : ℕ
+      most = greatest_room code.functions
+
       -- it comes to each state of the machine with tokens
       pub token_states_are : FollowTheirTokens → ComesToTokenStates (layout_in shape) code cells depth entry parts
       token_states_are follow_their_tokens =
           comes_to_states functions texts lowered.main_lines cells depth entry parts image (layout_in shape) code
-          (λ room enough input bytes.
-          follow_their_tokens (layout_in shape) (table_of shape) code texts functions lowered room enough image.pool depth
-          image.first input image.aligned image.behind bytes (are_fit room enough input bytes)) never
+          (λ input bytes.
+          follow_their_tokens (layout_in shape) (table_of shape) code texts functions lowered most (has_enough code) image.pool depth
+          image.first input image.aligned image.behind bytes (are_fit most (has_enough code) input bytes))
+          (never most (has_enough code))
 
       module _ (come_to_their_lines : ComeToTheirLines) where
         -- each form has lines of its own
@@ -203,17 +208,19 @@ module _ (shape : Shape) (code : TokenedProgram) (functions : List Lines) (texts
             (come_to_their_lines (layout_in shape) (table_of shape) code texts functions lowered runnable.lowerable
             runnable.main_first).0
 
-        comes : (room : ℕ) → HasRoom room code → (input : List ℕ) → All (λ byte. byte < 256) input
+        -- the costs of steps, and so the room in them, change nothing that is done
+        comes : (room : ℕ) (input : List ℕ) → All (λ byte. byte < 256) input
             → ComesToItsLines (layout_in shape) bare_code room texts functions lowered.main_lines image.pool depth image.first input
             own
             × FollowsEachState (layout_in shape) bare_code room texts functions lowered.main_lines image.pool depth image.first input
         unfolding own
-        comes room enough input bytes =
+        comes room input bytes =
             (come_to_their_lines (layout_in shape) (table_of shape) code texts functions lowered runnable.lowerable
-            runnable.main_first).1 room enough image.pool depth image.first input image.aligned image.behind bytes
-            (are_fit room enough input bytes)
+            runnable.main_first).1 most (has_enough code) image.pool depth image.first input image.aligned image.behind bytes
+            (are_fit most (has_enough code) input bytes)
 
         -- the forms of the program have addresses of their own in the image, which follows the counted machine
         pub own_is : HasOwnAddresses (layout_in shape) code cells depth entry parts
         own_is =
-            own_addresses functions texts lowered.main_lines cells depth entry parts image (layout_in shape) code own comes never
+            own_addresses functions texts lowered.main_lines cells depth entry parts image (layout_in shape) code own comes
+            (never most (has_enough code))

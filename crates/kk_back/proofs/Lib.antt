@@ -5,5 +5,6 @@ pub mod HeldFrames
 pub mod ImageLayers
 pub mod FreeCells
 pub mod OwnAddresses
+pub mod TokenRooms
 pub mod TokenStates
 pub mod ImageMeaning

@@ -13,7 +13,6 @@ use Rattle.kk_counted.specs.CountedCodes.{Counted, CountedProgram}
 use Rattle.kk_counted.specs.CountedCosts.{roomy_cost}
 use Rattle.kk_counted.specs.CountedStates.{CountedSetting, CountedJoin, running, counted_first_state}
 use Rattle.kk_counted.specs.Keeping.{counted_after}
-use Rattle.kk_counted.specs.TokenCosts.{HasRoom}
 use Rattle.kk_counted.specs.TokenedCodes.{TokenedProgram}
 use Rattle.cell_runtime.specs.Sizes.{runtime_words}
 use Rattle.elf_image.specs.Parts.{memory_of}
@@ -157,21 +156,21 @@ module _ (functions : List Lines) (texts : List (List ℕ)) (main : Lines) (cell
       (count : ℕ) × ((s : Processor) × ((run count (start (memory_of parts) entry input) ≡ goes s)
       × IsLike room input n counted count s))
 
-  module _ (comes : (room : ℕ) → HasRoom room tokened → (input : List ℕ) → All (λ byte. byte < 256) input
+  module _ (comes : (room : ℕ) (input : List ℕ) → All (λ byte. byte < 256) input
       → ComesToItsLines layout code room texts functions main image.pool depth image.first input own
       × FollowsEachState layout code room texts functions main image.pool depth image.first input)
-      (never : (room : ℕ) → HasRoom room tokened → (input : List ℕ) → All (λ byte. byte < 256) input → (n : ℕ)
+      (never : (input : List ℕ) → All (λ byte. byte < 256) input → (n : ℕ)
       → state (asm_machine (primitives constants image.pool) depth functions) n (asm_start main (first_world image.pool input))
       ≢ stuck) where
-    arrives : (room : ℕ) → HasRoom room tokened → (input : List ℕ) → All (λ byte. byte < 256) input
+    arrives : (room : ℕ) (input : List ℕ) → All (λ byte. byte < 256) input
         → (n : ℕ) (act : Counted) (environment : Environment) (joins : List CountedJoin)
         → (counted_after (roomy_cost room) on_pool input n).control ≡ running act environment joins → is_act act ≡ true
         → IsThere room input n act on_pool
-    arrives room enough input bytes n act environment joins runs acts =
+    arrives room input bytes n act environment joins runs acts =
         let (f, (way, (is_act_at, (k, (among, (m, (world, (at_line, (told, heap)))))))))
-        = (comes room enough input bytes).0 n act environment joins runs acts in
+        = (comes room input bytes).0 n act environment joins runs acts in
         let (count, (s, (goes_on, (pc_is, (events, has))))) =
-        image.lines.comes input bytes (never room enough input bytes) m f k world (own.there f way k among) at_line in (
+        image.lines.comes input bytes (never input bytes) m f k world (own.there f way k among) at_line in (
           f,
           (
             way,
@@ -185,14 +184,14 @@ module _ (functions : List Lines) (texts : List (List ℕ)) (main : Lines) (cell
           ),
         )
 
-    keeps_up : (room : ℕ) → HasRoom room tokened → (input : List ℕ) → All (λ byte. byte < 256) input
+    keeps_up : (room : ℕ) (input : List ℕ) → All (λ byte. byte < 256) input
         → (n : ℕ) (form : Counted) (environment : Environment) (joins : List CountedJoin)
         → (counted_after (roomy_cost room) on_pool input n).control ≡ running form environment joins
         → KeepsUp room input n on_pool
-    keeps_up room enough input bytes n form environment joins runs =
-        let (m, (high, (there, (told, heap)))) = (comes room enough input bytes).1 n form environment joins runs in
+    keeps_up room input bytes n form environment joins runs =
+        let (m, (high, (there, (told, heap)))) = (comes room input bytes).1 n form environment joins runs in
         let (count, (s, (goes_on, (events, has)))) =
-        image.lines.follows input bytes (never room enough input bytes) m high there in
+        image.lines.follows input bytes (never input bytes) m high there in
         (count, (s, (goes_on, (events ∙ told, (high.shared.cells, ((has.0, has.1.0), heap))))))
 
     -- a state of the one setting is one of the other
@@ -208,15 +207,17 @@ module _ (functions : List Lines) (texts : List (List ℕ)) (main : Lines) (cell
     own_addresses = record {
       pool = image.pool;
       cells_are = image.cells_are;
+      frame = image.lines.frame;
+      fill = image.lines.fill;
       addresses = addresses;
       some = some_address;
       apart = addresses_apart;
       outside = addresses_outside;
       inside = addresses_inside;
-      comes = λ room enough input bytes n act environment joins runs acts.
+      comes = λ room input bytes n act environment joins runs acts.
           subst (IsThere room input n act) same_setting
-          (arrives room enough input bytes n act environment joins (on_that room input n act environment joins runs) acts);
-      follows = λ room enough input bytes n form environment joins runs.
+          (arrives room input bytes n act environment joins (on_that room input n act environment joins runs) acts);
+      follows = λ room input bytes n form environment joins runs.
           subst (KeepsUp room input n) same_setting
-          (keeps_up room enough input bytes n form environment joins (on_that room input n form environment joins runs));
+          (keeps_up room input bytes n form environment joins (on_that room input n form environment joins runs));
     }

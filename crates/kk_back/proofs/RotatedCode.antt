@@ -1,28 +1,25 @@
 -- What rotation of loops leaves of code with places: it is plain, has the same slots and as many functions, and can be placed.
-use Rattle.std.proofs.Common.{◌≡◌, ◌⊎◌, ◌≤◌, inl, inr, ℕ, suc, List, [], ◌∷◌, ◌++◌, Option, Some, None, Bool, true, false, cond}
-use Rattle.std.proofs.Common.{All, length, option_map, refl, sym, ◌∙◌, ap, subst, arith}
-use Rattle.std.specs.Prelude.{IsSome, not}
+use Rattle.std.proofs.Common.{◌≡◌, ◌⊎◌, inl, inr, ℕ, suc, List, [], ◌∷◌, ◌++◌, Option, Some, None, Bool, true, false, cond}
+use Rattle.std.proofs.Common.{length, option_map, refl, sym, ap, subst}
+use Rattle.std.specs.Prelude.{IsSome}
 use Rattle.std.specs.List.{AllByRecursion}
 use Rattle.std.proofs.lemmas.List.Elements.{All-nil}
 use Rattle.rv_isa.specs.declared.asm.Action.{Action}
-use Rattle.rv_isa.specs.declared.asm.Action.TheVariants.{Compute, Branch}
-use Rattle.rv_isa.specs.declared.asm.Condition.{Condition}
-use Rattle.rv_isa.specs.declared.asm.Operation.{Operation}
+use Rattle.rv_isa.specs.declared.asm.Action.TheVariants.{Branch}
 use Rattle.rv_isa.specs.declared.asm.Operation.TheVariants.{Register, Immediate, Shift, Li, Mv, La, Lw, Sw, Dup, Free}
 use Rattle.rv_isa.specs.declared.placed.Listed.{Listed}
 use Rattle.rv_isa.specs.Frames.{found}
-use Rattle.rv_isa.specs.Opposites.{opposite}
 use Rattle.rv_isa.specs.PlacedCode.{PlacedLine, does, moves, PlacedLines}
 use Rattle.rv_isa.specs.PlacedMachine.{is_label_line}
 use Rattle.cell_heap.specs.Pool.{Pool}
-use Rattle.rv_loops.specs.Rotation.{HasOpposites, ComputesAlone, is_straight_action, Loop, is_call_of, test, mark, goes_on, leaves}
+use Rattle.rv_loops.specs.Rotation.{HasOpposites, ComputesAlone, Loop, is_call_of, test, mark, goes_on, leaves}
 use Rattle.rv_loops.specs.Rotation.{rotated_line, rotated_lines, IsRotated, AreRotated}
 use Rattle.rv_loops.proofs.Places.{found_both, found_again}
 use Rattle.rv_place.specs.ProcessorStates.{HasLabel, IsPlain, ArePlain, AllPlain}
 use Rattle.rv_place.proofs.InstructionExecution.{opposite_compares}
 use Rattle.rv_regs.specs.Shape.{IsBelow, HasSlotsBelow, AllSlotsBelow, HaveSlotsBelow}
 use Rattle.cell_runtime.specs.Operations.{Constants, computed}
-use Rattle.cell_runtime.specs.World.{World, computed_in, primitives}
+use Rattle.cell_runtime.specs.World.{World, primitives}
 
 -- ---- what holds of all lines
 

@@ -25,7 +25,7 @@ use Rattle.rv_place.specs.ProcessorStates.{HasCells}
 use Rattle.rv_place.specs.Texts.{most_functions}
 use Rattle.cell_runtime.specs.Operations.{Constants, all_bytes}
 use Rattle.cell_runtime.specs.World.{World, first_world, primitives}
-use Rattle.kk_back.specs.Memory.{HasAsmMemory}
+use Rattle.kk_back.specs.Memory.{HasAsmMemory, FillMemory, frames_end}
 use Rattle.kk_back.specs.Sizes.{FitsText, most_asm_bytes}
 
 -- Assembler code that can be placed: it is well formed and small, its functions are few, and the first one takes no arguments.
@@ -49,12 +49,12 @@ HasHeldFrames pool frame stack high s =
 -- that code never is at a loss, the image follows the code's machine: for each state that goes on there is a number of instructions
 -- behind which the run goes on, memory has the cells of the world and the held tokens of the frames, and the same events are told.
 -- Where the machine is at such a line, there is such a number behind which memory has the cells, and the program counter is at the
--- line's address.
+-- line's address. The cells and the frames fill the memory.
 pub record HasLineAddresses (functions : List Lines) (main : Lines) (constants : Constants) (pool : Pool) (depth entry : ℕ)
     (parts : List Part) : Type 0 where
   pub address : ℕ → ℕ → ℕ
   pub frame : ℕ
-  pub stack : ℕ
+  pub fill : FillMemory pool depth frame parts
   pub apart : (f k g j : ℕ) → AsmHasOwnLine functions f k → AsmHasOwnLine functions g j → address f k ≡ address g j
       → (f ≡ g) × (k ≡ j)
   pub outside : (f k : ℕ) → AsmHasOwnLine functions f k → entry + 4 * runtime_words ≤ address f k
@@ -78,7 +78,7 @@ pub record HasLineAddresses (functions : List Lines) (main : Lines) (constants :
       → (count : ℕ) × ((s : Processor) × ((run count (start (memory_of parts) entry input) ≡ goes s)
       × ((trace (processor_machine rv32im) count (goes (start (memory_of parts) entry input))
       ≡ trace (asm_machine (primitives constants pool) depth functions) n (asm_start main (first_world pool input)))
-      × HasHeldFrames pool frame stack high s)))
+      × HasHeldFrames pool frame (frames_end pool depth frame) high s)))
 
 -- An image of assembler code, for so many cells and such a depth, for which its memory has room, by where its cells and its
 -- constants stand. On each input on which that code never is at a loss, the processor's machine agrees with the code's; where the

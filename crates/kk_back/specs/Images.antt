@@ -37,6 +37,7 @@ use Rattle.rv_place.specs.Images.{outside_lines}
 use Rattle.rv_place.specs.ProcessorStates.{HasCells}
 use Rattle.rv_place.specs.Texts.{most_functions}
 use Rattle.kk_back.specs.FreeCells.{AreAllFree}
+use Rattle.kk_back.specs.Memory.{FillMemory}
 
 -- a program in counted form on so many cells and with such a depth
 abbrev pub counted_setting : CountedProgram → ℕ → ℕ → CountedSetting
@@ -75,14 +76,16 @@ HasHeap pool layout heap s =
 -- The addresses of the forms of a program with tokens in its image, by its bare form. Each call, print and construction with fields
 -- has one instruction address of its own or more: more where its code stands more than once, behind tests of tokens. Each is a
 -- multiple of 4 behind the runtime's words, which stand at the entry, and a word can be fetched there as an instruction. No two
--- forms share an address. With each room that is enough for the tokens, and on each input of bytes, the image follows the counted
+-- forms share an address. With each room for tokens in its costs, and on each input of bytes, the image follows the counted
 -- machine: where that is at a form, there is a number of instructions behind which the run goes on, memory has the cells of the
 -- counted heap, and the same events are told. Where the form is a call, a print or a construction with fields, there is such a
 -- number behind which the program counter is at an address of a place with this form's code (where two places of the program have
--- the same code, it is one of them).
+-- the same code, it is one of them). The cells fill the memory of the image, together with frames of some size.
 pub record HasOwnAddresses (layout : Layout) (code : TokenedProgram) (cells depth entry : ℕ) (parts : List Part) : Type 0 where
   pub pool : Pool
   pub cells_are : pool.cells ≡ cells
+  pub frame : ℕ
+  pub fill : FillMemory pool depth frame parts
   pub addresses : ℕ → List ℕ → List ℕ
   pub some : (f : ℕ) (way : List ℕ) (act : Counted) → IsActAt (bare_program code) f way act
       → (at : ℕ) × (is_among (addresses f way) at ≡ true)
@@ -91,7 +94,7 @@ pub record HasOwnAddresses (layout : Layout) (code : TokenedProgram) (cells dept
   pub outside : (f : ℕ) (way : List ℕ) (at : ℕ) → is_among (addresses f way) at ≡ true → entry + 4 * runtime_words ≤ at
   pub inside : (f : ℕ) (way : List ℕ) (at : ℕ) → is_among (addresses f way) at ≡ true
       → (at % 4 ≡ 0) × (can_fetch (memory_of parts) at 4 ≡ true)
-  pub comes : (room : ℕ) → HasRoom room code → (input : List ℕ) → All (λ byte. byte < 256) input
+  pub comes : (room : ℕ) (input : List ℕ) → All (λ byte. byte < 256) input
       → (n : ℕ) (act : Counted) (environment : Environment) (joins : List CountedJoin)
       → (counted_after (roomy_cost room) (counted_setting (bare_program code) cells depth) input n).control
       ≡ running act environment joins
@@ -103,7 +106,7 @@ pub record HasOwnAddresses (layout : Layout) (code : TokenedProgram) (cells dept
       (counted_first_state (counted_setting (bare_program code) cells depth) input))
       × HasHeap pool layout
       (counted_after (roomy_cost room) (counted_setting (bare_program code) cells depth) input n).heap s)))))))))
-  pub follows : (room : ℕ) → HasRoom room code → (input : List ℕ) → All (λ byte. byte < 256) input
+  pub follows : (room : ℕ) (input : List ℕ) → All (λ byte. byte < 256) input
       → (n : ℕ) (form : Counted) (environment : Environment) (joins : List CountedJoin)
       → (counted_after (roomy_cost room) (counted_setting (bare_program code) cells depth) input n).control
       ≡ running form environment joins

@@ -1,8 +1,9 @@
--- How much memory an image asks for, and how large the frames are that it has room for.
-use Rattle.std.specs.Prelude.{◌≡◌, ℕ, ◌+◌, ◌*◌, ◌≤◌, List}
+-- How much memory an image asks for, how large the frames are that it has room for, and where its cells and its frames stand.
+use Rattle.std.specs.Prelude.{◌≡◌, ℕ, ◌+◌, ◌*◌, ◌≤◌, List, length}
+use Rattle.cell_heap.specs.Pool.{Pool, end_of}
 use Rattle.cell_runtime.specs.Layouts.{layout_of}
 use Rattle.cell_runtime.specs.Texts.{IsText}
-use Rattle.elf_image.specs.Program.{program_parts, memory_size_of}
+use Rattle.elf_image.specs.Program.{memory_start, program_parts, text_of, memory_size_of}
 use Rattle.elf_image.specs.declared.part.Part.{Part}
 use Rattle.kk_counted.specs.BareForms.{bare_program}
 use Rattle.kk_counted.specs.FunctionSizes.{AllHaveVariablesBelow, AllHaveSlotsBelow}
@@ -32,6 +33,18 @@ pub record IsPlacedIn (placed : Placed) (cells depth : ℕ) (parts : List Part) 
   pub parts_are : parts ≡ program_parts text runtime.memory.size
   pub small : frame_size (placed_functions placed) ≤ wide_frame
   pub size : memory_size_of parts ≡ (layout_of cells depth (frame_size (placed_functions placed))).stack_end
+
+-- The cells of a pool and so many frames of so many bytes fill the memory of an image, as the runtime lays them out (cell_runtime,
+-- `layout_of`). Behind the text come the runtime's buffer, the cells and the frames, and with these the memory ends. Only where frames
+-- are larger than a load reaches from their first word, as many bytes as `below_pointer` says are left behind them. At any depth but 0
+-- frames of one size alone fill a memory.
+pub record FillMemory (pool : Pool) (depth frame : ℕ) (parts : List Part) : Type 0 where
+  pub first : pool.first ≡ memory_start (length (text_of parts)) + (layout_of pool.cells depth frame).cells
+  pub size : memory_size_of parts ≡ (layout_of pool.cells depth frame).stack_end
+
+-- the address where the frames end, which begin where the cells end
+abbrev pub frames_end : Pool → ℕ → ℕ → ℕ
+frames_end pool depth frame = end_of pool + depth * frame
 
 -- an image of assembler code: a frame has a word for each value that a function names, and no more but that for the way back
 pub record HasAsmMemory (functions : List Lines) (cells depth : ℕ) (parts : List Part) : Type 0 where

@@ -3,7 +3,7 @@
 use Rattle.std.specs.Prelude.{◌≡◌, ℕ, ◌<◌, true, List, [], ◌∷◌, All}
 use Rattle.kk_base.specs.Machines.{trace}
 use Rattle.kk_source.specs.State.{Environment}
-use Rattle.kk_counted.specs.TokenCosts.{token_cost, HasRoom}
+use Rattle.kk_counted.specs.TokenCosts.{token_cost}
 use Rattle.kk_counted.specs.TokenKeeping.{token_after}
 use Rattle.kk_counted.specs.TokenStates.{TokenSetting, TokenJoin, TokenControl, TokenConfiguration, token_first_state}
 use Rattle.kk_counted.specs.TokenedCodes.{Tokened, TokenedProgram}
@@ -19,6 +19,7 @@ use Rattle.rv_isa.specs.Execution.{rv32im, run}
 use Rattle.rv_isa.specs.Processor.{Processor, start, goes}
 use Rattle.rv_isa.specs.ProcessorMachine.{processor_machine}
 use Rattle.rv_place.specs.HeldSlots.{IsInFrame}
+use Rattle.kk_back.specs.Memory.{FillMemory, frames_end}
 
 -- a program with tokens on so many cells and with such a depth: its constructions leave the fields that they keep
 abbrev pub token_setting : TokenedProgram → ℕ → ℕ → TokenSetting
@@ -42,19 +43,21 @@ pub record HasTokenState (pool : Pool) (layout : Layout) (frame stack : ℕ) (c 
   pub linked : AreLinked frame stack held links
   pub has : HasTokenCells pool layout c cells held
 
--- The image comes to each state of the machine with tokens. With a room that is enough for the tokens, and on each input of bytes:
--- where that machine is at a form, there is a number of instructions behind which the run goes on, the same events are told, and
--- memory has the state.
+-- The image comes to each state of the machine with tokens. Its cells and its frames fill its memory: the frames stand from the end of
+-- the cells on, and that of number k, counted from 0, ends k frames below the end of them all. On each input of bytes: where that
+-- machine is at a form, there is a number of instructions behind which the run goes on, the same events are told, and memory has the
+-- state.
 pub record ComesToTokenStates (layout : Layout) (code : TokenedProgram) (cells depth entry : ℕ) (parts : List Part) : Type 0 where
   pub pool : Pool
   pub cells_are : pool.cells ≡ cells
   pub frame : ℕ
-  pub stack : ℕ
-  pub comes : (room : ℕ) → HasRoom room code → (input : List ℕ) → All (λ byte. byte < 256) input
+  pub fill : FillMemory pool depth frame parts
+  pub comes : (input : List ℕ) → All (λ byte. byte < 256) input
       → (n : ℕ) (form : Tokened) (environment : Environment) (joins : List TokenJoin)
       → (token_after token_cost (token_setting code cells depth) input n).control
       ≡ TokenControl.running form environment joins
       → (count : ℕ) × ((s : Processor) × ((run count (start (memory_of parts) entry input) ≡ goes s)
       × ((trace (processor_machine rv32im) count (goes (start (memory_of parts) entry input))
       ≡ trace (tokened_outside (token_setting code cells depth)) n (token_first_state (token_setting code cells depth) input))
-      × HasTokenState pool layout frame stack (token_after token_cost (token_setting code cells depth) input n) s)))
+      × HasTokenState pool layout frame (frames_end pool depth frame)
+      (token_after token_cost (token_setting code cells depth) input n) s)))

@@ -49,7 +49,8 @@ use std::alloc::Global;
 /// The image comes to each state of the program with its tokens too: where its machine is at a form, there is a number of
 /// instructions behind which the same events are told and memory has that state. The chain of held tokens has those of the state,
 /// in their order, each in a word of the frame of its call; each other token is in a cell in hand, which is on no chain; and the
-/// cell of each token has the fields that it had when it was opened.
+/// cell of each token has the fields that it had when it was opened. The frames stand from the end of the cells on, that of `main`
+/// last, and with the cells they fill the memory behind the buffer.
 pub fn image(
     alloc: Global,
     tokened: &Tokened,

@@ -2,7 +2,7 @@
 use Rattle.std.proofs.Common.{◌≡◌, ℕ, ◌+◌, ◌*◌, List, [], ◌++◌, length, Result, Ok, Err, OnOk, length-append, append-nil, append_assoc, refl, sym, ap, ◌∙◌, subst}
 use Rattle.kk_base.specs.declared.error.NoMemory.{NoMemory}
 use Rattle.rv_isa.specs.declared.instr.Instr.{Instr}
-use Rattle.rv_isa.specs.declared.instr.Instr.TheVariants.{Lui}
+use Rattle.rv_isa.specs.declared.instr.Instr.TheVariants.{Auipc}
 use Rattle.rv_isa.specs.declared.register.Register.{Register}
 use Rattle.rv_isa.specs.declared.immediate.UpperImmediate.{UpperImmediate}
 use Rattle.rv_isa.proofs.RangeEquality.{same_register}
@@ -44,5 +44,5 @@ pub on_so : {A B : Type 0} (result : Result (Unit {0}) NoMemory) → (A → B) �
 on_so (Ok done) follows given = follows given
 on_so (Err error) follows given = tt
 
-pub same_lui : {a b : Register} {upper : UpperImmediate} → a.number ≡ b.number → Lui a upper ≡ Lui b upper
-same_lui {a} {b} {upper} same = ap (λ r. Lui r upper) (same_register a b same)
+pub same_auipc : {a b : Register} {upper : UpperImmediate} → a.number ≡ b.number → Auipc a upper ≡ Auipc b upper
+same_auipc {a} {b} {upper} same = ap (λ r. Auipc r upper) (same_register a b same)

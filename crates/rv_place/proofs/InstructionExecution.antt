@@ -260,6 +260,14 @@ module _ (cells : ℕ) {code : Code} (below : (at : ℕ) (i : Instr) → code at
       one_gets rd v (at + 4) (avoids_by i (sets s.pc v) here effect tt)
       (subst (λ r. Leads 1 s (record (stepped (at + 4) s) { registers = put r v s.registers })) plain.rd_is (leads-sets stands i v {v = v} {next = at + 4} (here_is here) effect refl (next_is here)).leads)
 
+  -- AUIPC adds to its own address
+  pub auipc_gets : {rd : Register} {imm : UpperImmediate} {word : ℕ} → code at ≡ Some (Instr.Auipc rd imm) → sum_word at imm.word ≡ word
+      → Gets cells code 1 (rd.number ∷ []) rd.number word (at + 4) s
+  auipc_gets {rd} {imm} {word} here word_is =
+      let word_at : sum_word s.pc imm.word ≡ word = ap (λ pc. sum_word pc imm.word) pc_is ∙ word_is in
+      one_gets rd.number word (at + 4) (avoids_by (Instr.Auipc rd imm) (effect_at s (Instr.Auipc rd imm)) here refl tt)
+      (leads-sets stands (Instr.Auipc rd imm) (sum_word s.pc imm.word) {v = word} {next = at + 4} (here_is here) refl word_at (next_is here)).leads
+
   pub load_gets : {rd base : Register} {offset : Immediate} {address word : ℕ} → code at ≡ Some (Instr.Lw rd base offset)
       → sum_word (value s.registers base.number) offset.word ≡ address → address % 4 ≡ 0 → can_load s.parts address 4 ≡ true → number_at s.memory address 4 ≡ word → MissesFree cells s address
       → Gets cells code 1 (rd.number ∷ []) rd.number word (at + 4) s

@@ -23,7 +23,7 @@ use Rattle.rv_place.specs.Instructions.{branch_instruction, LoadsWord, words_of_
 use Rattle.rv_place.specs.declared.reach.Reach.{Reach}
 use Rattle.rv_place.specs.declared.reach.Reach.TheVariants.{Near, Far, Wide}
 use Rattle.rv_place.specs.Lines.{Map, IsFromPointer, ShiftsStack, IsSymbolAt, GoesBack, ReturnsFrom, frame_register, FindsFrame, EntersAt, PassesAt, BeginsAt}
-use Rattle.rv_place.proofs.InstructionExecution.{addi_row, lui_row, branch_effect, MissesFree, Done, Gets, Goes, misses_done, done_none, done_then, done_as, done_on, target_of, next_is, plain_gets, load_gets, store_goes, jump_gets, branch_goes, opposite_compares, near_gets}
+use Rattle.rv_place.proofs.InstructionExecution.{addi_row, lui_row, branch_effect, MissesFree, Done, Gets, Goes, misses_done, done_none, done_then, done_as, done_on, target_of, next_is, plain_gets, auipc_gets, load_gets, store_goes, jump_gets, branch_goes, opposite_compares, near_gets}
 
 -- instructions that leave a word in the stack pointer
 pub record Shifts (cells : ℕ) (code : Code) (steps : ℕ) (changed : List ℕ) (memory : ℕ → ℕ) (base next : ℕ) (s : Processor) : Type 0 where
@@ -91,7 +91,7 @@ module _ (cells : ℕ) {code : Code} (below : (at : ℕ) (i : Instr) → code at
   far_to : {s : Processor} → Stands code s → (at : ℕ) → s.pc ≡ at → (back : Register) (target : ℕ) → JumpsFar code at back target → target % 4 ≡ 0
       → Gets cells code 2 (1 ∷ back.number ∷ []) back.number (at + 8) target s
   far_to stands at pc_is back target (upper, lower, sum, has) aligned =
-      let first = plain_gets cells below stands pc_is (lui_row ra upper) has.0 in
+      let first = auipc_gets cells below stands pc_is {rd = ra} {imm = upper} has.0 refl in
       let target_is : sum_word (value first.after.registers 1) lower.word ≡ target = ap (λ v. sum_word v lower.word) (first.value_is (λ e. cc)) ∙ sum in
       let second = jump_gets cells below first.done.stands first.done.pc_is {back = back} {by = ra} {offset = lower} has.1.0 target_is aligned in
       let behind : at + 4 + 4 ≡ at + 8 = omega arith in

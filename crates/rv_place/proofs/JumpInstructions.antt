@@ -24,14 +24,14 @@ module _ (from : ℕ) (back : Register) (target : ℕ) {reach : Reach} {old new 
   pub jump_near : reach ≡ Near → JumpGrew from Near back target old new → JumpGrew from reach back target old new
   jump_near is grew = subst (λ (r : Reach). JumpGrew from r back target old new) (sym is) grew
 
-  pub jump_far : (reach ≡ Far) ⊎ (reach ≡ Wide) → Grew 2 (λ code at. JumpsBy Far code at back target) old new
+  pub jump_far : (reach ≡ Far) ⊎ (reach ≡ Wide) → Grew 2 (λ code at. at ≡ from → JumpsBy Far code at back target) old new
       → JumpGrew from reach back target old new
   jump_far (inl is) grew =
       subst (λ (r : Reach). JumpGrew from r back target old new) (sym is)
-      (grew_so refl (λ code at here is_at reaches. here) grew)
+      (grew_so refl (λ code at here is_at reaches. here is_at) grew)
   jump_far (inr is) grew =
       subst (λ (r : Reach). JumpGrew from r back target old new) (sym is)
-      (grew_so refl (λ code at here is_at reaches. here) grew)
+      (grew_so refl (λ code at here is_at reaches. here is_at) grew)
 
 module _ (from : ℕ) (jumps : Reach) (condition : Condition) (a b : Register) (target : ℕ)
     {reach : Reach} {old new : List Instr} where

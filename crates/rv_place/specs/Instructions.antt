@@ -109,13 +109,13 @@ words_of_jump Near = 1
 words_of_jump Far = 2
 words_of_jump Wide = 2
 
--- a jump to any address, JALR behind LUI of ra
+-- a jump to any address by the distance, JALR behind AUIPC of ra
 abbrev pub JumpsFar : Code → ℕ → Register → ℕ → Type 0
 JumpsFar code at back target =
-    (upper : UpperImmediate) × (lower : Immediate) × (sum_word upper.word lower.word ≡ target)
-    × Has code at (Instr.Lui ra upper ∷ Instr.Jalr back ra lower ∷ [])
+    (upper : UpperImmediate) × (lower : Immediate) × (sum_word (sum_word at upper.word) lower.word ≡ target)
+    × Has code at (Instr.Auipc ra upper ∷ Instr.Jalr back ra lower ∷ [])
 
--- A jump to an address; the way back goes to a register, which may be zero. A near one is JAL, by the distance.
+-- A jump to an address; the way back goes to a register, which may be zero. A near one is JAL, by the distance too.
 abbrev pub JumpsBy : Reach → Code → ℕ → Register → ℕ → Type 0
 JumpsBy Near code at back target = (offset : JumpOffset) × (sum_word at offset.word ≡ target) × (code at ≡ Some (Instr.Jal back offset))
 JumpsBy Far code at back target = JumpsFar code at back target

@@ -32,7 +32,7 @@ pub fn emit(code: &mut Vec<Instr>, instruction: Instr) -> Result<(), NoMemory>
     }
 }
 
-/// The parts of a word: the one that LUI sets, and the one that an addition behind it completes.
+/// The parts of a word: the one that LUI sets or AUIPC adds, and the one that an addition behind it completes.
 fn split(word: u32) -> (UpperImmediate, Immediate)
     ensures { sum_word result.0.word result.1.word ≡ word }
 {
@@ -103,14 +103,19 @@ fn emit_near_jump(
     emit(code, Instr::Jal { rd: back, offset })
 }
 
-/// Goes to any address; the way back goes to a register.
-fn emit_far_jump(code: &mut Vec<Instr>, back: Register, target: u32) -> Result<(), NoMemory>
-    ensures { OnOk result (Grew 2 (λ c p. JumpsBy Far c p back target) code.old.items code.new.items) }
+/// Goes to any address, from the address `at`; the way back goes to a register.
+fn emit_far_jump(
+    code: &mut Vec<Instr>,
+    at: u32,
+    back: Register,
+    target: u32,
+) -> Result<(), NoMemory>
+    ensures { OnOk result (Grew 2 (λ c p. p ≡ at → JumpsBy Far c p back target) code.old.items code.new.items) }
 {
-    let (upper, lower) = split(target);
+    let (upper, lower) = split(target.wrapping_sub(at));
     emit(
         code,
-        Instr::Lui {
+        Instr::Auipc {
             rd: Register::RA,
             imm: upper,
         },
@@ -138,7 +143,7 @@ fn emit_jump_by(
 {
     match reach {
         Reach::Near => emit_near_jump(code, at, back, target),
-        Reach::Far | Reach::Wide => emit_far_jump(code, back, target),
+        Reach::Far | Reach::Wide => emit_far_jump(code, at, back, target),
     }
 }
 
