@@ -7,11 +7,11 @@ use Rattle.rv_isa.specs.declared.asm.Action.TheVariants.{Unhold}
 use Rattle.rv_isa.specs.declared.asm.Operation.{Operation}
 use Rattle.rv_isa.specs.declared.placed.Operand.{Operand}
 use Rattle.rv_isa.specs.declared.placed.Place.{Place}
-use Rattle.rv_isa.specs.Frames.{Frame, empty, put, all_of, only_of, result_of, received, found, top_in, top, taken_in, top_taken}
-use Rattle.rv_isa.specs.Frames.{taken_if, is_among, holding, off_top, unholding}
+use Rattle.rv_isa.specs.Frames.{Frame, empty, put, all_of, only_of, twice_of, result_of, received, found, top_in, top, taken_in}
+use Rattle.rv_isa.specs.Frames.{top_taken, taken_if, is_among, holding, off_top, unholding}
 use Rattle.rv_isa.specs.PlacedCode.{PlacedLine, PlacedLines}
 use Rattle.rv_isa.specs.PlacedMachine.{PlacedTurn, is_label_line, read_at, slots_with, kept_by, passed, awaited}
-use Rattle.rv_isa.specs.PlacedMachine.{only_slot, placed_entered, placed_goes, placed_writes, unless_lost, placed_gives, placed_jumps}
+use Rattle.rv_isa.specs.PlacedMachine.{only_slot, first_slot, placed_entered, placed_goes, placed_writes, unless_lost, placed_gives, placed_jumps}
 use Rattle.rv_isa.specs.PlacedMachine.{placed_returns}
 use Rattle.rv_isa.specs.PlacedMachine.{placed_answered, placed_served, placed_acts}
 use Rattle.rv_isa.specs.AsmMachine.{unless_held}
@@ -390,31 +390,36 @@ module _ {H E W : Type 0} (m : Primitives H E W) (depth : ℕ) (q q' : List Plac
         by true false is = subst (λ (h : List ℕ). SameAt h g.cells f.cells) (same_some held held' is) all_same
         by false among is = off_same k held held' all_same is
 
-    token_goes : (action : Action) (act : ℕ → H → Option H) (word : ℕ) (held : List ℕ) → SameAt held g.cells f.cells
-        → StandsFor {W = W} q q' IsAtSame (or_stuck (by_token act word shared) (λ next. placed_goes (record on { held = held }) fs
-        (kept_by action known) next))
-        (or_stuck (by_token act word shared) (λ next. placed_goes (record on' { held = held }) gs (kept_by action known') next))
-    token_goes action act word held same =
-        let changed : IsLike q q' (record on { held = held }) (record on' { held = held })
-        = record {
-          there = like.there;
-          there' = like.there';
-          function = like.function;
-          cells = like.cells;
-          held = refl;
-          held_cells = same;
-        } in
-        same_go q q' IsAtSame (by_token act word shared) (λ next. placed_goes (record on { held = held }) fs
+    -- the frames with other held tokens
+    held_like : (held : List ℕ) → SameAt held g.cells f.cells → IsLike q q' (record f { held = held }) (record g { held = held })
+    held_like held same = record {
+      there = like.there;
+      there' = like.there';
+      function = like.function;
+      cells = like.cells;
+      held = refl;
+      held_cells = same;
+    }
+
+    token_goes : (action : Action) (act : ℕ → H → Option H) (into : Option Operand) (word : ℕ) (held : List ℕ)
+        → SameAt held g.cells f.cells
+        → StandsFor {W = W} q q' IsAtSame (or_stuck (by_token act word shared) (λ next. placed_gives into word
+        (record on { held = held }) fs (kept_by action known) next))
+        (or_stuck (by_token act word shared) (λ next. placed_gives into word (record on' { held = held }) gs
+        (kept_by action known') next))
+    token_goes action act into word held same =
+        same_go q q' IsAtSame (by_token act word shared) (λ next. placed_gives into word (record on { held = held }) fs
         (kept_by action known) next)
-        (λ next. placed_goes (record on' { held = held }) gs (kept_by action known') next)
-        (λ next is. ((changed, (at, wait)), (kept_knows action known known' more, refl)))
+        (λ next. placed_gives into word (record on' { held = held }) gs (kept_by action known') next)
+        (λ next is. gives IsAtSame (record f { held = held }) (record g { held = held }) fs gs (kept_by action known)
+        (kept_by action known') shared rest rest' (held_like held same) wait (kept_knows action known known' more) at into word next)
 
     holds_both : (args : List Operand) (into : Option Operand) (words : List ℕ)
         → all_of (map (λ (arg : Operand). read_at known f.cells arg.place) args) ≡ Some words
         → StandsFor q q' IsAtSame (placed_acts m depth q on fs known shared Hold args into words)
         (placed_acts m depth q' on' gs known' shared Hold args into words)
     holds_both args into words is =
-        same_go q q' IsAtSame (only_slot args) _ _ (λ k slot_is. same_go q q' IsAtSame (only_of words) _ _ (λ word word_is.
+        same_go q q' IsAtSame (first_slot args) _ _ (λ k slot_is. same_go q q' IsAtSame (twice_of words) _ _ (λ word word_is.
         let token = slot_known args k words known f.cells slot_is is in
         let same : g.cells k ≡ f.cells k = like.cells k token.0 token.1 ∙ sym token.1 in
         subst (λ (h : List ℕ). StandsFor {W = W} q q' IsAtSame
@@ -422,7 +427,7 @@ module _ {H E W : Type 0} (m : Primitives H E W) (depth : ℕ) (q q' : List Plac
         (record on { held = held }) fs (kept_by Hold known) next)))
         (or_stuck (holding k word h) (λ held. or_stuck (by_token m.hold word shared) (λ next. placed_goes
         (record on' { held = held }) gs (kept_by Hold known') next)))) (sym like.held)
-        (same_go q q' IsAtSame (holding k word f.held) _ _ (λ held held_is. token_goes Hold m.hold word held
+        (same_go q q' IsAtSame (holding k word f.held) _ _ (λ held held_is. token_goes Hold m.hold None word held
         (holding_same k word f.held held same like.held_cells held_is)))))
 
     unholds_both : (args : List Operand) (into : Option Operand) (words : List ℕ)
@@ -431,11 +436,11 @@ module _ {H E W : Type 0} (m : Primitives H E W) (depth : ℕ) (q q' : List Plac
     unholds_both args into words =
         same_go q q' IsAtSame (only_slot args) _ _ (λ k slot_is. same_go q q' IsAtSame (only_of words) _ _ (λ word word_is.
         subst (λ (h : List ℕ). StandsFor {W = W} q q' IsAtSame
-        (or_stuck (unholding k word f.held) (λ held. or_stuck (by_token m.unhold word shared) (λ next. placed_goes
+        (or_stuck (unholding k word f.held) (λ held. or_stuck (by_token m.unhold word shared) (λ next. placed_gives into word
         (record on { held = held }) fs (kept_by Unhold known) next)))
-        (or_stuck (unholding k word h) (λ held. or_stuck (by_token m.unhold word shared) (λ next. placed_goes
+        (or_stuck (unholding k word h) (λ held. or_stuck (by_token m.unhold word shared) (λ next. placed_gives into word
         (record on' { held = held }) gs (kept_by Unhold known') next)))) (sym like.held)
-        (same_go q q' IsAtSame (unholding k word f.held) _ _ (λ held held_is. token_goes Unhold m.unhold word held
+        (same_go q q' IsAtSame (unholding k word f.held) _ _ (λ held held_is. token_goes Unhold m.unhold into word held
         (unholding_same k word f.held held like.held_cells held_is)))))
 
     -- ---- an action

@@ -10,7 +10,7 @@ use Rattle.rv_isa.specs.declared.placed.Place.TheVariants.{Register as register,
 use Rattle.rv_isa.specs.Conventions.{argument, is_in, spoils, take_from}
 use Rattle.rv_isa.specs.Frames.{Frame, empty, put, all_of, is_among}
 use Rattle.rv_isa.specs.PlacedCode.{PlacedLine, PlacedLines}
-use Rattle.rv_isa.specs.PlacedMachine.{read_at, registers_with, slots_with, kept_by, passed, slot_of, only_slot}
+use Rattle.rv_isa.specs.PlacedMachine.{read_at, registers_with, slots_with, kept_by, passed, slot_of, first_slot}
 use Rattle.rv_loops.specs.Relation.{Knows, SameAt, IsLike}
 
 -- frames stay alike, whatever code is left of them and wherever a result goes
@@ -139,13 +139,13 @@ same_aside k w w' a b (h ∷ held) none same =
     (put_aside (h == k) w w' (a h) (b h) both.0 same.0, same_aside k w w' a b held both.1 same.1)
 
 -- the slot of a token has a known word
-pub slot_known : (args : List Operand) (k : ℕ) (words : List ℕ) (a cells : ℕ → Option ℕ) → only_slot args ≡ Some k
+pub slot_known : (args : List Operand) (k : ℕ) (words : List ℕ) (a cells : ℕ → Option ℕ) → first_slot args ≡ Some k
     → all_of (map (λ (arg : Operand). read_at a cells arg.place) args) ≡ Some words → (w : ℕ) × (cells k ≡ Some w)
 slot_known [] k words a cells is known = cc is
-slot_known (arg ∷ []) k words a cells is known =
-    let parts = all_parts (read_at a cells arg.place) [] words known in (parts.0, by arg.place is parts.1.1.0)
+slot_known (arg ∷ args) k words a cells is known =
+    let others : List (Option ℕ) = map (λ (arg : Operand). read_at a cells arg.place) args in
+    let parts = all_parts (read_at a cells arg.place) others words known in (parts.0, by arg.place is parts.1.1.0)
   where
     by : {w : ℕ} (place : Place) → slot_of place ≡ Some k → read_at a cells place ≡ Some w → cells k ≡ Some w
     by (register r) is read = cc is
     by (slot j) is read = let same : j ≡ k = cc is in ap cells (sym same) ∙ read
-slot_known (arg ∷ other ∷ args) k words a cells is known = cc is

@@ -1,5 +1,5 @@
 -- The placed form's machine follows the assembler form's, one lemma an action.
-use Rattle.std.proofs.Common.{◌≡◌, ◌≢◌, ◌&&◌, ◌⊎◌, ℕ, suc, List, [], ◌∷◌, Option, Some, None, Bool, true, false, cond, All, slice_get, length, nat_le, refl, sym, ◌∙◌, ap, subst, inl, inr, map, option_map}
+use Rattle.std.proofs.Common.{◌≡◌, ◌≢◌, ◌==◌, ◌⊎◌, ℕ, suc, List, [], ◌∷◌, Option, Some, None, Bool, true, false, cond, All, slice_get, length, nat_le, refl, sym, ◌∙◌, ap, subst, inl, inr, map, option_map}
 use Rattle.std.proofs.lemmas.Bool.{and_parts}
 use Rattle.std.proofs.lemmas.List.Elements.{All-head}
 use Rattle.rv_isa.specs.declared.asm.Action.{Action}
@@ -16,7 +16,7 @@ use Rattle.rv_isa.specs.AsmCode.{Line, Lines}
 use Rattle.rv_isa.specs.PlacedCode.{PlacedLine, PlacedLines}
 use Rattle.rv_isa.specs.Primitives.{Reply, answers, ends, fails, Primitives, ended, or_stuck, by_token}
 use Rattle.rv_isa.specs.Conventions.{is_in, is_lost, is_slot, conforms, take_from, gives_into, gives_at}
-use Rattle.rv_isa.specs.Frames.{Frame, empty, put, put_into, found, top, taken_if, only_of, result_of, received, holding, unholding}
+use Rattle.rv_isa.specs.Frames.{Frame, empty, put, put_into, found, top, taken_if, only_of, twice_of, result_of, received, holding, unholding}
 use Rattle.rv_isa.specs.AsmMachine.{AsmTurn, is_label, bound, asm_entered, asm_goes, asm_jumps, asm_returns, asm_gives, asm_served, asm_acts}
 use Rattle.rv_isa.specs.PlacedMachine.{PlacedTurn, is_label_line, read_at, registers_with, slots_with, kept_by, passed, number_of, awaited, slot_of, placed_entered, placed_goes, unless_lost, placed_gives, placed_jumps, placed_returns, placed_answered, placed_served, placed_acts}
 use Rattle.rv_regs.specs.Listings.{first_alive, alive_behind, alive_at_label, both_of, listed_as, spoils_by, marks}
@@ -360,19 +360,37 @@ in_slot alive arg stand is =
     let r = read_listed alive arg stand in
     record { k = s.0; l = r.0; slot_is = s.1; listed = r.1; place = stands_slot r.0 arg.place s.0 r.2 s.2 }
 
--- a frame whose chain changes goes on
-chained : {H : Type 0} (W : Type 0) (alive : List Listed) (action : Action) (arg : Operand) (registers : ℕ → Option ℕ) (shared : H) (f : Frame Line) (fs : List (Frame Line)) (g : Frame PlacedLine) (gs : List (Frame PlacedLine))
-    → Fits alive (arg ∷ []) None (Some action) (first_alive g.code ∷ []) → Stands alive registers f g → AllWait fs gs → (held held' : List ℕ) → HeldAs (first_alive g.code) held held'
-    → StandsFor {W = W} (asm_goes (record f { held = held }) fs shared) (placed_goes (record g { held = held' }) gs (λ x. cond (spoils_by (Some action) x) None (registers x)) shared)
-chained W alive action arg registers shared f fs g gs fits stands waits held held' chain = (
+-- a frame whose chain changes goes on, with a word that is given
+chained : {H : Type 0} (W : Type 0) (alive : List Listed) (action : Action) (args : List Operand) (into : Option Operand) (word : ℕ) (registers : ℕ → Option ℕ) (shared : H) (f : Frame Line) (fs : List (Frame Line)) (g : Frame PlacedLine) (gs : List (Frame PlacedLine))
+    → Fits alive args into (Some action) (first_alive g.code ∷ []) → Stands alive registers f g → AllWait fs gs → (held held' : List ℕ) → HeldAs (first_alive g.code) held held'
+    → StandsFor {W = W} (asm_goes (record f { cells = put_into (option_map value_of into) word f.cells; held = held }) fs shared)
+    (placed_gives into word (record g { held = held' }) gs (λ x. cond (spoils_by (Some action) x) None (registers x)) shared)
+chained W alive action args None word registers shared f fs g gs fits stands waits held held' chain = (
   (
-    lands alive action (arg ∷ []) None (first_alive g.code ∷ []) f.cells registers g.cells (λ x. cond (spoils_by (Some action) x) None (registers x)) (record f { held = held }) (record g { held = held' }) fits stands.holds
+    lands alive action args None (first_alive g.code ∷ []) f.cells registers g.cells (λ x. cond (spoils_by (Some action) x) None (registers x)) (record f { held = held }) (record g { held = held' }) fits stands.holds
         (same_code f (record f { held = held }) g (record g { held = held' }) stands.same refl refl refl refl refl refl) (inl refl)
         (change_nothing (Some action) f.cells registers g.cells) chain,
     waits,
   ),
   refl,
 )
+chained W alive action args (Some o) word registers shared f fs g gs fits stands waits held held' chain =
+    let left : ℕ → Option ℕ = λ x. cond (spoils_by (Some action) x) None (registers x) in
+    let f' : Frame Line = record f { cells = put o.value (Some word) f.cells; held = held } in
+    let g' : Frame PlacedLine = record g { cells = slots_with o.place (Some word) g.cells; held = held' } in (
+      (
+        lands alive action args (Some o) (first_alive g.code ∷ []) f.cells registers g.cells (registers_with o.place (Some word) left) f' g' fits stands.holds
+            (same_code f f' g g' stands.same refl refl refl refl refl refl) (inl refl)
+            (change_one o (Some word) action f.cells registers g.cells) chain,
+        waits,
+      ),
+      refl,
+    )
+
+-- a turn on a value, if it is the same as another
+on_same : {H W : Type 0} (same : Bool) (v : ℕ) (next : ℕ → AsmTurn H W) (t : PlacedTurn H W) → StandsFor (next v) t → StandsFor (or_stuck (cond same (Some v) None) next) t
+on_same true v next t meets = meets
+on_same false v next t meets = tt
 
 module _ {H E W : Type 0} (m : Primitives H E W) (depth : ℕ) (asm : List Lines) (placed : List PlacedLines)
     (alive : List Listed) (registers : ℕ → Option ℕ) (shared : H) (f : Frame Line) (fs : List (Frame Line)) (g : Frame PlacedLine) (gs : List (Frame PlacedLine)) (words : List ℕ)
@@ -385,31 +403,38 @@ module _ {H E W : Type 0} (m : Primitives H E W) (depth : ℕ) (asm : List Lines
   holds_token : (args : List Operand) (into : Option Operand) → Chains Hold args into
   holds_token args (Some o) ok fits = absurd (no_write Hold args o refl ok)
   holds_token [] None ok fits = tt
-  holds_token (arg ∷ other ∷ more) None ok fits = tt
-  holds_token (arg ∷ []) None ok fits =
-      let s = in_slot alive arg (All-head (IsAtPlace alive) arg [] fits.stand) (and_parts (is_slot arg.place) true (and_parts (is_slot arg.place && true) true ok).0).0 in
+  holds_token (arg ∷ []) None ok fits = tt
+  holds_token (arg ∷ other ∷ third ∷ more) None ok fits = tt
+  holds_token (arg ∷ other ∷ []) None ok fits =
+      let args : List Operand = arg ∷ other ∷ [] in
+      let taken = and_parts (take_from Hold 0 args) true ok in
+      let s = in_slot alive arg (All-head (IsAtPlace alive) arg (other ∷ []) fits.stand) (and_parts (is_slot arg.place) (take_from Hold 1 (other ∷ [])) taken.0).0 in
       let asm_on : ℕ → List ℕ → AsmTurn H W = λ word held. or_stuck (by_token m.hold word shared) (λ next. asm_goes (record f { held = held }) fs next) in
       let placed_on : ℕ → List ℕ → PlacedTurn H W = λ word held. or_stuck (by_token m.hold word shared) (λ next. placed_goes (record g { held = held }) gs (kept_by Hold registers) next) in
-      subst (λ (o : Option ℕ). StandsFor {W = W} (or_stuck (only_of words) (λ word. or_stuck (holding arg.value word f.held) (asm_on word)))
-      (or_stuck o (λ k. or_stuck (only_of words) (λ word. or_stuck (holding k word g.held) (placed_on word))))) (sym s.slot_is)
-      (same_go (only_of words) (λ word. or_stuck (holding arg.value word f.held) (asm_on word)) (λ word. or_stuck (holding s.k word g.held) (placed_on word))
+      let asm_from : ℕ → AsmTurn H W = λ value. or_stuck (twice_of words) (λ word. or_stuck (holding value word f.held) (asm_on word)) in
+      let placed_from : ℕ → PlacedTurn H W = λ k. or_stuck (twice_of words) (λ word. or_stuck (holding k word g.held) (placed_on word)) in
+      subst (λ (o : Option ℕ). StandsFor {W = W} (or_stuck (cond (arg.value == other.value) (Some arg.value) None) asm_from) (or_stuck o placed_from)) (sym s.slot_is)
+      (on_same (arg.value == other.value) arg.value asm_from (placed_from s.k)
+      (same_go (twice_of words) (λ word. or_stuck (holding arg.value word f.held) (asm_on word)) (λ word. or_stuck (holding s.k word g.held) (placed_on word))
       (λ word e. both_go (holding arg.value word f.held) (holding s.k word g.held) (asm_on word) (placed_on word)
       (λ held e'.
-      let there = held_both alive (first_alive g.code) (first_alive g.code ∷ []) arg s.k s.l (inl refl) stands.apart s.listed s.place f.held g.held held word fits.held stands.held e' in (
+      let there = held_both alive (first_alive g.code) (first_alive g.code ∷ []) arg (other ∷ []) s.k s.l (inl refl) stands.apart s.listed s.place f.held g.held held word fits.held stands.held e' in (
         there.0,
         there.1,
         same_go (by_token m.hold word shared) (λ next. asm_goes (record f { held = held }) fs next) (λ next. placed_goes (record g { held = there.0 }) gs (kept_by Hold registers) next)
-            (λ next e. chained W alive Hold arg registers next f fs g gs fits stands waits held there.0 there.2),
-      ))))
+            (λ next e. chained W alive Hold args None word registers next f fs g gs fits stands waits held there.0 there.2),
+      )))))
 
   takes_back : (args : List Operand) (into : Option Operand) → Chains Unhold args into
-  takes_back args (Some o) ok fits = absurd (no_write Unhold args o refl ok)
-  takes_back [] None ok fits = tt
-  takes_back (arg ∷ other ∷ more) None ok fits = tt
-  takes_back (arg ∷ []) None ok fits =
-      let s = in_slot alive arg (All-head (IsAtPlace alive) arg [] fits.stand) (and_parts (is_slot arg.place) true (and_parts (is_slot arg.place && true) true ok).0).0 in
-      let asm_on : ℕ → List ℕ → AsmTurn H W = λ word held. or_stuck (by_token m.unhold word shared) (λ next. asm_goes (record f { held = held }) fs next) in
-      let placed_on : ℕ → List ℕ → PlacedTurn H W = λ word held. or_stuck (by_token m.unhold word shared) (λ next. placed_goes (record g { held = held }) gs (kept_by Unhold registers) next) in
+  takes_back [] into ok fits = tt
+  takes_back (arg ∷ other ∷ more) into ok fits = tt
+  takes_back (arg ∷ []) into ok fits =
+      let taken = and_parts (take_from Unhold 0 (arg ∷ [])) (gives_into Unhold into) ok in
+      let s = in_slot alive arg (All-head (IsAtPlace alive) arg [] fits.stand) (and_parts (is_slot arg.place) true taken.0).0 in
+      let asm_with : List ℕ → ℕ → H → AsmTurn H W = λ held word next. asm_goes (record f { cells = put_into (option_map value_of into) word f.cells; held = held }) fs next in
+      let placed_with : List ℕ → ℕ → H → PlacedTurn H W = λ held word next. placed_gives into word (record g { held = held }) gs (kept_by Unhold registers) next in
+      let asm_on : ℕ → List ℕ → AsmTurn H W = λ word held. or_stuck (by_token m.unhold word shared) (asm_with held word) in
+      let placed_on : ℕ → List ℕ → PlacedTurn H W = λ word held. or_stuck (by_token m.unhold word shared) (placed_with held word) in
       subst (λ (o : Option ℕ). StandsFor {W = W} (or_stuck (only_of words) (λ word. or_stuck (unholding arg.value word f.held) (asm_on word)))
       (or_stuck o (λ k. or_stuck (only_of words) (λ word. or_stuck (unholding k word g.held) (placed_on word))))) (sym s.slot_is)
       (same_go (only_of words) (λ word. or_stuck (unholding arg.value word f.held) (asm_on word)) (λ word. or_stuck (unholding s.k word g.held) (placed_on word))
@@ -418,8 +443,8 @@ module _ {H E W : Type 0} (m : Primitives H E W) (depth : ℕ) (asm : List Lines
       let there = unheld_both alive (first_alive g.code) (first_alive g.code ∷ []) arg s.k s.l (inl refl) stands.apart s.listed s.place fits.held f.held g.held held word stands.held e' in (
         there.0,
         there.1,
-        same_go (by_token m.unhold word shared) (λ next. asm_goes (record f { held = held }) fs next) (λ next. placed_goes (record g { held = there.0 }) gs (kept_by Unhold registers) next)
-            (λ next e. chained W alive Unhold arg registers next f fs g gs fits stands waits held there.0 there.2),
+        same_go (by_token m.unhold word shared) (asm_with held word) (placed_with there.0 word)
+            (λ next e. chained W alive Unhold (arg ∷ []) into word registers next f fs g gs fits stands waits held there.0 there.2),
       ))))
 
 -- Of an action that fits, the two machines make turns that stand for each other.

@@ -10,7 +10,7 @@ use Rattle.rv_isa.specs.declared.placed.Operand.{Operand}
 use Rattle.rv_isa.specs.declared.placed.Listed.{Listed}
 use Rattle.rv_isa.specs.Frames.{put, is_among, holding, unholding, off_top}
 use Rattle.rv_isa.specs.PlacedMachine.{read_at, number_of}
-use Rattle.rv_regs.specs.Listings.{listed_as, marks, is_read_in}
+use Rattle.rv_regs.specs.Listings.{listed_as, marks, is_first_read, with_copy}
 use Rattle.rv_regs.specs.Conditions.{AtBoth, StaysHeld, Apart}
 use Rattle.rv_regs.specs.Relation.{Holds, HeldAs, IsSlotOf, WaitsFor}
 use Rattle.rv_regs.proofs.ValueListings.{listed_has, read_other, put_same, put_other, one_place, on_copy_then}
@@ -35,7 +35,7 @@ token_next : (alive next : List Listed) (nexts : List (List Listed)) (action : O
 token_next alive next nexts action reads v k is all marked listed =
     let has = listed_has (StaysHeld (marks action reads) nexts) alive v (token v k) all listed in
     let stays = has.0 (ap (λ (l : Listed). l.held) marked) in
-    all_next (λ n. listed_as v n ≡ Some (marks action reads (token v k))) next nexts stays.1.1 is ∙ ap (λ (l : Listed). Some l) marked
+    all_next (λ n. listed_as v n ≡ Some (with_copy None (marks action reads (token v k)))) next nexts stays.1 is ∙ ap (λ (l : Listed). Some (with_copy None l)) marked
 
 -- the chain stays
 pub held_next : (alive next : List Listed) (nexts : List (List Listed)) (action : Option Action) (reads : List Operand) → IsNext next nexts
@@ -62,35 +62,36 @@ slot_not_among alive v k l apart listed place (u ∷ vs) (j ∷ ks) held none =
     (slot_not_among alive v k l apart listed place vs ks held.1.1 parts.1)
 
 pub mark_hold : (reads : List Operand) (v k : ℕ) → marks (Some Hold) reads (token v k) ≡ token v k
-mark_hold reads v k = both (is_read_in reads v)
+mark_hold reads v k = both (is_first_read reads v)
   where
     both : (b : Bool) → cond b (token v k) (token v k) ≡ token v k
     both true = refl
     both false = refl
 
-mark_held : (arg : Operand) (l : Listed) → arg.value ≡ l.value → marks (Some Hold) (arg ∷ []) l ≡ record l { held = true }
-mark_held arg l same = cond-true ((arg.value == l.value) || false) (record l { held = true }) l (or_left (arg.value == l.value) false (eq-eqb arg.value l.value same))
+mark_held : (arg : Operand) (more : List Operand) (l : Listed) → arg.value ≡ l.value → marks (Some Hold) (arg ∷ more) l ≡ record l { held = true }
+mark_held arg more l same = cond-true (arg.value == l.value) (record l { held = true }) l (eq-eqb arg.value l.value same)
 
 -- A token that is held goes on both chains, or stays off both.
-module _ (alive next : List Listed) (nexts : List (List Listed)) (arg : Operand) (k : ℕ) (l : Listed) (is : IsNext next nexts) (apart : Apart alive)
+module _ (alive next : List Listed) (nexts : List (List Listed)) (arg : Operand) (more : List Operand) (k : ℕ) (l : Listed) (is : IsNext next nexts) (apart : Apart alive)
     (listed : listed_as arg.value alive ≡ Some l) (place : l.place ≡ slot k) where
-  put_on : (vs ks vs' : List ℕ) (w : ℕ) (a z : Bool) → is_among arg.value vs ≡ a → (w == 0) ≡ z → All (StaysHeld (marks (Some Hold) (arg ∷ [])) nexts) alive
+  put_on : (vs ks vs' : List ℕ) (w : ℕ) (a z : Bool) → is_among arg.value vs ≡ a → (w == 0) ≡ z → All (StaysHeld (marks (Some Hold) (arg ∷ more)) nexts) alive
       → HeldAs alive vs ks → is_among k ks ≡ false → a ≡ false → cond z (Some vs) (Some (arg.value ∷ vs)) ≡ Some vs'
       → (ks' : List ℕ) × (cond z (Some ks) (Some (k ∷ ks)) ≡ Some ks') × HeldAs next vs' ks'
   put_on vs ks vs' w a true among zero_word all held off none e =
       let same : vs ≡ vs' = cc in
-      (ks, refl, subst (λ us. HeldAs next us ks) same (held_next alive next nexts (Some Hold) (arg ∷ []) is all vs ks (λ v j t. mark_hold (arg ∷ []) v j) held))
+      (ks, refl, subst (λ us. HeldAs next us ks) same (held_next alive next nexts (Some Hold) (arg ∷ more) is all vs ks (λ v j t. mark_hold (arg ∷ more) v j) held))
   put_on vs ks vs' w a false among zero_word all held off none e =
       let same : arg.value ∷ vs ≡ vs' = cc in
-      let has = listed_has (StaysHeld (marks (Some Hold) (arg ∷ [])) nexts) alive arg.value l all listed in
-      let marked : marks (Some Hold) (arg ∷ []) l ≡ record l { held = true } = mark_held arg l (sym has.1) in
+      let has = listed_has (StaysHeld (marks (Some Hold) (arg ∷ more)) nexts) alive arg.value l all listed in
+      let marked : marks (Some Hold) (arg ∷ more) l ≡ record l { held = true } = mark_held arg more l (sym has.1) in
       let stays = has.0 (ap (λ (m : Listed). m.held) marked) in
-      let is_token : marks (Some Hold) (arg ∷ []) l ≡ token arg.value k = marked ∙ cc (has.1, place, stays.1.0) in
-      let there : listed_as l.value next ≡ Some (marks (Some Hold) (arg ∷ []) l) = all_next (λ n. listed_as l.value n ≡ Some (marks (Some Hold) (arg ∷ []) l)) next nexts stays.1.1 is in
+      let is_token : with_copy None (marks (Some Hold) (arg ∷ more) l) ≡ token arg.value k = ap (with_copy None) marked ∙ cc (has.1, place) in
+      let there : listed_as l.value next ≡ Some (with_copy None (marks (Some Hold) (arg ∷ more) l))
+      = all_next (λ n. listed_as l.value n ≡ Some (with_copy None (marks (Some Hold) (arg ∷ more) l))) next nexts stays.1 is in
       let there' : listed_as arg.value next ≡ Some (token arg.value k) = ap (λ v. listed_as v next) (sym has.1) ∙ there ∙ ap (λ (m : Listed). Some m) is_token in
-      (k ∷ ks, refl, subst (λ us. HeldAs next us (k ∷ ks)) same (there', (among ∙ none, held_next alive next nexts (Some Hold) (arg ∷ []) is all vs ks (λ v j t. mark_hold (arg ∷ []) v j) held)))
+      (k ∷ ks, refl, subst (λ us. HeldAs next us (k ∷ ks)) same (there', (among ∙ none, held_next alive next nexts (Some Hold) (arg ∷ more) is all vs ks (λ v j t. mark_hold (arg ∷ more) v j) held)))
 
-  pub held_both : (vs ks vs' : List ℕ) (w : ℕ) → All (StaysHeld (marks (Some Hold) (arg ∷ [])) nexts) alive → HeldAs alive vs ks
+  pub held_both : (vs ks vs' : List ℕ) (w : ℕ) → All (StaysHeld (marks (Some Hold) (arg ∷ more)) nexts) alive → HeldAs alive vs ks
       → holding arg.value w vs ≡ Some vs' → (ks' : List ℕ) × (holding k w ks ≡ Some ks') × HeldAs next vs' ks'
   held_both vs ks vs' w all held e = go (is_among arg.value vs) refl e
     where

@@ -9,9 +9,9 @@ use Rattle.rv_isa.specs.declared.placed.Operand.{Operand}
 use Rattle.rv_isa.specs.PlacedCode.{PlacedLine, does, moves, PlacedLines, from_of, to_of}
 use Rattle.rv_isa.specs.Primitives.{Reply, answers, ends, fails, Primitives, go, ended, stuck, or_stuck, by_token}
 use Rattle.rv_isa.specs.Conventions.{conforms}
-use Rattle.rv_isa.specs.Frames.{Frame, empty, put, all_of, only_of, result_of, received, found, top, top_taken, taken_in, taken_if, holding, unholding}
+use Rattle.rv_isa.specs.Frames.{Frame, empty, put, all_of, only_of, result_of, received, found, top, top_taken, taken_in, taken_if, holding, unholding, twice_of}
 use Rattle.rv_isa.specs.AsmMachine.{unless_held}
-use Rattle.rv_isa.specs.PlacedMachine.{PlacedTurn, is_label_line, read_at, kept_by, passed, awaited, only_slot, is_held, placed_entered, placed_goes, placed_writes, unless_lost, placed_gives, placed_jumps, placed_returns, placed_answered, placed_served, placed_acts, placed_line, placed_running, placed_machine}
+use Rattle.rv_isa.specs.PlacedMachine.{PlacedTurn, is_label_line, read_at, kept_by, passed, awaited, only_slot, first_slot, is_held, placed_entered, placed_goes, placed_writes, unless_lost, placed_gives, placed_jumps, placed_returns, placed_answered, placed_served, placed_acts, placed_line, placed_running, placed_machine}
 
 -- a frame's function is there, and its code is what is left of it behind some lines
 abbrev pub IsInCode : List PlacedLines → Frame PlacedLine → Type 0
@@ -164,21 +164,21 @@ module _ {H E W : Type 0} (m : Primitives H E W) (depth : ℕ) (placed : List Pl
       (λ callee e. if_in_code placed is_full full (enters callee) full_in_code (entered_in_code placed g callee e, all))
 
   -- a token is held or taken back, where each step of that is there
-  chain_in_code : (f : Frame PlacedLine) (fs : List (Frame PlacedLine)) (registers : ℕ → Option ℕ) (slot word : Option ℕ)
+  chain_in_code : (into : Option Operand) (f : Frame PlacedLine) (fs : List (Frame PlacedLine)) (registers : ℕ → Option ℕ) (slot word : Option ℕ)
       (chain : ℕ → ℕ → Option (List ℕ)) (next : ℕ → Option H)
       → AreInCode placed (f ∷ fs)
       → TurnInCode {W = W} placed (or_stuck slot (λ k. or_stuck word (λ w. or_stuck (chain k w) (λ held.
-      or_stuck (next w) (λ shared. placed_goes (record f { held = held }) fs registers shared)))))
-  chain_in_code f fs registers None word chain next all = tt
-  chain_in_code f fs registers (Some k) None chain next all = tt
-  chain_in_code f fs registers (Some k) (Some w) chain next all = held_in_code (chain k w) (next w)
+      or_stuck (next w) (λ shared. placed_gives into w (record f { held = held }) fs registers shared)))))
+  chain_in_code into f fs registers None word chain next all = tt
+  chain_in_code into f fs registers (Some k) None chain next all = tt
+  chain_in_code into f fs registers (Some k) (Some w) chain next all = held_in_code (chain k w) (next w)
     where
       held_in_code : (held : Option (List ℕ)) (shared : Option H)
           → TurnInCode {W = W} placed (or_stuck held (λ held.
-          or_stuck shared (λ shared. placed_goes (record f { held = held }) fs registers shared)))
+          or_stuck shared (λ shared. placed_gives into w (record f { held = held }) fs registers shared)))
       held_in_code None shared = tt
       held_in_code (Some held) None = tt
-      held_in_code (Some held) (Some shared) = all
+      held_in_code (Some held) (Some shared) = gives_in_code into w (record f { held = held }) fs registers shared all
 
   -- what an action leads to
   acts_in_code : (f : Frame PlacedLine) (fs : List (Frame PlacedLine)) (registers : ℕ → Option ℕ) (shared : H) (action : Action)
@@ -209,10 +209,10 @@ module _ {H E W : Type 0} (m : Primitives H E W) (depth : ℕ) (placed : List Pl
   acts_in_code f fs registers shared (Routine routine) args into words all =
       served_in_code into (f ∷ fs) (kept_by (Routine routine) registers) (m.serve routine words (top (f ∷ fs)) shared) all
   acts_in_code f fs registers shared Hold args into words all =
-      chain_in_code f fs (kept_by Hold registers) (only_slot args) (only_of words) (λ k word. holding k word f.held)
+      chain_in_code None f fs (kept_by Hold registers) (first_slot args) (twice_of words) (λ k word. holding k word f.held)
       (λ word. by_token m.hold word shared) all
   acts_in_code f fs registers shared Unhold args into words all =
-      chain_in_code f fs (kept_by Unhold registers) (only_slot args) (only_of words) (λ k word. unholding k word f.held)
+      chain_in_code into f fs (kept_by Unhold registers) (only_slot args) (only_of words) (λ k word. unholding k word f.held)
       (λ word. by_token m.unhold word shared) all
 
   -- what a line leads to

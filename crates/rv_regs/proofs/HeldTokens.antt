@@ -10,13 +10,14 @@ use Rattle.rv_isa.specs.declared.asm.Action.TheVariants.{Compute, Label, Jump, B
 use Rattle.rv_isa.specs.declared.placed.Place.{Place}
 use Rattle.rv_isa.specs.declared.placed.Place.TheVariants.{Slot as slot}
 use Rattle.rv_isa.specs.declared.placed.Listed.{Listed}
+use Rattle.rv_isa.specs.declared.placed.Operand.{Operand}
 use Rattle.rv_isa.specs.AsmCode.{Line}
 use Rattle.rv_isa.specs.Frames.{is_among}
-use Rattle.rv_isa.specs.WellFormed.{is_written, is_alive, is_alive_behind, goes_straight_on, may_give, has_value, ChangesHeld, LeavesHeld, AreTokensHeld}
+use Rattle.rv_isa.specs.WellFormed.{is_written, is_alive, is_alive_behind, goes_straight_on, may_give, has_value, first_of, ChangesHeld, LeavesHeld, AreTokensHeld}
 use Rattle.rv_regs.specs.declared.slots.Loaded.{Loaded}
 use Rattle.rv_regs.specs.Alive.{held_before, held_values}
-use Rattle.rv_regs.specs.Listings.{is_read_in, marks}
-use Rattle.rv_regs.specs.Plain.{place_in, copy_in, listing_at, operand_at, first_register, loaded_for}
+use Rattle.rv_regs.specs.Listings.{is_read_in, is_first_read, marks}
+use Rattle.rv_regs.specs.Plain.{place_in, copy_in, listing_at, operand_at, first_register, register_args, loaded_for, operands_for}
 use Rattle.rv_regs.proofs.RegisterPlaces.{all_weaker, place_slot, copy_none, load_values}
 
 among_append : (v : ℕ) (xs ys : List ℕ) → is_among v (xs ++ ys) ≡ (is_among v xs || is_among v ys)
@@ -25,7 +26,7 @@ among_append v xs ys = list_any-append (λ (other : ℕ). other == v) xs ys
 -- ---- the lists are exact
 
 before_exact : (action : Action) (args before behind : List ℕ) → ChangesHeld action args before behind → held_before action args behind ≡ before
-before_exact Hold args before behind changes = ap (drop (length args)) changes ∙ drop-append_seam args before
+before_exact Hold args before behind changes = ap (drop (length (first_of args))) changes ∙ drop-append_seam (first_of args) before
 before_exact Unhold args before behind changes = sym changes
 before_exact action args before behind changes = sym changes.0
 
@@ -57,7 +58,7 @@ stays_alive v action args before behind into rest changes leaves there later = g
     none a e = absurd (false≢true (sym (ap (is_among v) e) ∙ there))
 
     go : (a : Action) → ChangesHeld a args before behind → (is_among v args || (not (is_written into v) && is_alive_behind v a rest)) ≡ true
-    go Hold c = kept Hold (ap (is_among v) c ∙ among_append v args before ∙ or_right (is_among v args) (is_among v before) there) refl
+    go Hold c = kept Hold (ap (is_among v) c ∙ among_append v (first_of args) before ∙ or_right (is_among v (first_of args)) (is_among v before) there) refl
     go Unhold c = taken (or_cases (is_among v args) (is_among v behind) (sym (ap (is_among v) c ∙ among_append v args behind) ∙ there))
     go (Jump l) c = none (Jump l) (c.1 refl)
     go (Branch condition l) c = none (Branch condition l) (c.1 refl)
@@ -120,6 +121,21 @@ read_among place_of (x ∷ xs) v = ap (λ b. (x == v) || b) (read_among place_of
 abbrev pub listing_with : ℕ → Place → Option Register → Bool → Listed
 listing_with v place copy held = record { value = v; place = place; held = held; copy = copy }
 
+-- the values of the operands of an action are its arguments
+pub read_args : (action : Action) (loaded : List Loaded) (args : List ℕ) (v : ℕ) → is_read_in (operands_for action loaded args) v ≡ is_among v args
+read_args Hold loaded [] v = refl
+read_args Hold loaded (x ∷ xs) v = ap (λ b. (x == v) || b) (read_among (place_in loaded) xs v)
+read_args action loaded args v = read_among (place_in loaded) args v
+
+or_nothing : (b : Bool) → b ≡ (b || false)
+or_nothing true = refl
+or_nothing false = refl
+
+-- and the first one is the token that a Hold holds
+first_among : (loaded : List Loaded) (args : List ℕ) (v : ℕ) → is_first_read (operands_for Hold loaded args) v ≡ is_among v (first_of args)
+first_among loaded [] v = refl
+first_among loaded (x ∷ xs) v = or_nothing (x == v)
+
 marked_as : (v : ℕ) (place : Place) (copy : Option Register) (held mark is read : Bool) → (read ≡ true → mark ≡ is) → (read ≡ false → held ≡ is)
     → cond read (listing_with v place copy mark) (listing_with v place copy held) ≡ listing_with v place copy is
 marked_as v place copy held mark is true on off = ap (listing_with v place copy) (on refl)
@@ -130,18 +146,21 @@ abbrev pub ReadsNoneHeld : List ℕ → List ℕ → List ℕ → Type 0
 ReadsNoneHeld args before behind = (v : ℕ) → is_among v before ≡ true → is_among v behind ≡ true → is_among v args ≡ false
 
 -- the marks of an action are what is held behind it
-pub marked : (action : Action) (args before behind : List ℕ) (place_of : ℕ → Place) (copy_of : ℕ → Option Register) (stands : ℕ → Place) → ChangesHeld action args before behind → ReadsNoneHeld args before behind → (v : ℕ)
-    → marks (Some action) (map (operand_at stands) args) (listing_at place_of copy_of before v) ≡ listing_at place_of copy_of behind v
+pub marked : (action : Action) (args before behind : List ℕ) (place_of : ℕ → Place) (copy_of : ℕ → Option Register) (stands : List Loaded) → ChangesHeld action args before behind → ReadsNoneHeld args before behind → (v : ℕ)
+    → marks (Some action) (operands_for action stands args) (listing_at place_of copy_of before v) ≡ listing_at place_of copy_of behind v
 marked Hold args before behind place_of copy_of stands changes none v =
-    let read : is_read_in (map (operand_at stands) args) v ≡ is_among v args = read_among stands args v in
-    let is : is_among v behind ≡ (is_among v args || is_among v before) = ap (is_among v) changes ∙ among_append v args before in
-    marked_as v (place_of v) (copy_of v) (is_among v before) true (is_among v behind) (is_read_in (map (operand_at stands) args) v)
-    (λ t. sym (is ∙ or_left (is_among v args) (is_among v before) (sym read ∙ t)))
+    let held : List ℕ = first_of args in
+    let reads : List Operand = operands_for Hold stands args in
+    let read : is_first_read reads v ≡ is_among v held = first_among stands args v in
+    let is : is_among v behind ≡ (is_among v held || is_among v before) = ap (is_among v) changes ∙ among_append v held before in
+    marked_as v (place_of v) (copy_of v) (is_among v before) true (is_among v behind) (is_first_read reads v)
+    (λ t. sym (is ∙ or_left (is_among v held) (is_among v before) (sym read ∙ t)))
     (λ f. sym (is ∙ ap (λ b. b || is_among v before) (sym read ∙ f)))
 marked Unhold args before behind place_of copy_of stands changes none v =
-    let read : is_read_in (map (operand_at stands) args) v ≡ is_among v args = read_among stands args v in
+    let reads : List Operand = map (operand_at (place_in stands)) args in
+    let read : is_read_in reads v ≡ is_among v args = read_among (place_in stands) args v in
     let is : is_among v before ≡ (is_among v args || is_among v behind) = ap (is_among v) changes ∙ among_append v args behind in
-    marked_as v (place_of v) (copy_of v) (is_among v before) false (is_among v behind) (is_read_in (map (operand_at stands) args) v)
+    marked_as v (place_of v) (copy_of v) (is_among v before) false (is_among v behind) (is_read_in reads v)
     (λ t. sym (false_from_ne_true (is_among v behind)
     (λ there. false≢true (sym (none v (is ∙ or_left (is_among v args) (is_among v behind) (sym read ∙ t)) there) ∙ (sym read ∙ t)))))
     (λ f. is ∙ ap (λ b. b || is_among v behind) (sym read ∙ f))
@@ -165,19 +184,27 @@ held_no_copy held loaded v free there =
     copy_none v loaded
     (all_weaker (λ (l : Loaded). is_among l.value held ≡ false) (λ (l : Loaded). (v ≡ l.value) → ⊥) loaded (λ l none same. false≢true (sym none ∙ ap (λ w. is_among w held) (sym same) ∙ there)) free)
 
+-- what an action takes in registers is among its arguments
+pub register_args_among : (action : Action) (args : List ℕ) (v : ℕ) → is_among v (register_args action args) ≡ true → is_among v args ≡ true
+register_args_among Hold [] v there = absurd (false≢true there)
+register_args_among Hold (x ∷ xs) v there = or_right (x == v) (is_among v xs) there
+register_args_among Unhold args v there = absurd (false≢true there)
+register_args_among action args v there = there
+
+-- what is held before a line that takes back none of it is held behind it
+held_later : (action : Action) (args before behind : List ℕ) (v : ℕ) → ChangesHeld action args before behind → is_among v (register_args action args) ≡ true
+    → is_among v before ≡ true → is_among v behind ≡ true
+held_later Hold args before behind v changes read there =
+    ap (is_among v) changes ∙ among_append v (first_of args) before ∙ or_right (is_among v (first_of args)) (is_among v before) there
+held_later Unhold args before behind v changes read there = absurd (false≢true read)
+held_later action args before behind v changes read there = sym (ap (is_among v) changes.0) ∙ there
+
 -- what is loaded for a line is not held before it
 pub free_before : (action : Action) (args before behind : List ℕ) → ChangesHeld action args before behind → ReadsNoneHeld args before behind → AreFree before (loaded_for action args)
-free_before Hold args before behind changes none = tt
-free_before Unhold args before behind changes none = tt
 free_before action args before behind changes none =
-    load_values (λ u. is_among u before ≡ false) (first_register action) args
-    (λ u arg. false_from_ne_true (is_among u before) (λ there. false≢true (sym (none u there (sym (ap (is_among u) changes.0) ∙ there)) ∙ arg)))
-
--- nor behind it
-pub free_behind : (action : Action) (args before behind : List ℕ) → ChangesHeld action args before behind → ReadsNoneHeld args before behind → AreFree behind (loaded_for action args)
-free_behind Hold args before behind changes none = tt
-free_behind Unhold args before behind changes none = tt
-free_behind action args before behind changes none = subst (λ (vs : List ℕ). AreFree vs (loaded_for action args)) changes.0 (free_before action args before behind changes none)
+    load_values (λ u. is_among u before ≡ false) (first_register action) (register_args action args)
+    (λ u arg. false_from_ne_true (is_among u before)
+    (λ there. false≢true (sym (none u there (held_later action args before behind u changes arg there)) ∙ register_args_among action args u arg)))
 
 -- what a line writes is not held behind it
 pub result_free : (action : Action) (args before behind : List ℕ) (into : Option ℕ) (v : ℕ) → (has_value into ≡ true → may_give action ≡ true) → ChangesHeld action args before behind
@@ -190,5 +217,8 @@ result_free action args before behind into v gives changes leaves written = go a
 
     go : (a : Action) → (has_value into ≡ true → may_give a ≡ true) → ChangesHeld a args before behind → is_among v behind ≡ false
     go Hold g c = absurd (false≢true (g (has into written)))
-    go Unhold g c = absurd (false≢true (g (has into written)))
+    go Unhold g c =
+        false_from_ne_true (is_among v behind)
+        (λ there.
+        false≢true (sym (leaves v (ap (is_among v) c ∙ among_append v args behind ∙ or_right (is_among v args) (is_among v behind) there) there).1 ∙ written))
     go a g c = false_from_ne_true (is_among v behind) (λ there. false≢true (sym (leaves v (ap (is_among v) c.0 ∙ there) there).1 ∙ written))

@@ -141,7 +141,7 @@ store_fits point l pending next distinct are there free is =
     (λ u. places_handed (l ∷ pending) u are) (λ u. tt) (tt, refl)
     (λ u among held. (
       in_slot (place_in (l ∷ pending) u) u (held_in_slot point.held (l ∷ pending) u free held),
-      (refl, (listed_there (place_in pending) (copy_in []) point u among ∙ ap (λ (p : Place). Some (listing_with u p None (is_among u point.held))) (other u (not_moved point.held l.value u free.0 held)), tt)),
+      (listed_there (place_in pending) (copy_in []) point u among ∙ ap (λ (p : Place). Some (listing_with u p None (is_among u point.held))) (other u (not_moved point.held l.value u free.0 held)), tt),
     ))
     (λ u among. move_needs point (place_in (l ∷ pending)) (copy_in []) (place_in pending) (copy_in []) l.value (register l.register) (slot l.value) u among)
     (All-cons (IsAtPlace (stored_later (l ∷ pending) point)) (record { value = l.value; place = register l.register }) []
@@ -179,12 +179,9 @@ load_fits point l loaded next distinct are there free is =
     (λ u among held. (
       tt,
       (
-        held_no_copy point.held loaded u free.1 held,
-        (
-          listed_there (place_in []) (copy_in (l ∷ loaded)) point u among
-              ∙ ap (λ c. Some (listing_with u (slot u) c (is_among u point.held))) (copy_other l loaded u (λ e. not_moved point.held l.value u free.0 held (sym e))),
-          tt,
-        ),
+        listed_there (place_in []) (copy_in (l ∷ loaded)) point u among
+            ∙ ap (λ c. Some (listing_with u (slot u) c (is_among u point.held))) (held_no_copy point.held (l ∷ loaded) u free held),
+        tt,
       ),
     ))
     (λ u among. move_needs point (place_in []) (copy_in loaded) (place_in []) (copy_in (l ∷ loaded)) l.value (slot l.value) (register l.register) u among)

@@ -2,6 +2,7 @@
 use Rattle.std.proofs.Common.{◌≡◌, ◌==◌, ◌&&◌, ◌⊎◌, ◌<◌, ◌≤◌, ◌+◌, ℕ, zero, suc, List, [], ◌∷◌, Option, Some, None, Bool, true, false, not, cond, All, refl, sym, ◌∙◌, ap, subst, inl, inr, arith, eq-eqb, map, option_map, length, is_some}
 use Rattle.std.specs.List.{AllByRecursion}
 use Rattle.std.proofs.lemmas.Bool.{eqb-true, eqb-false, cond-true, or_cases, or_left, or_right, and_from, and_parts, not-true, not_from_false, false≢true, cases_Bool, cond_both, le-leb}
+use Rattle.std.proofs.lemmas.List.Elements.{All-nil, All-cons}
 use Rattle.rv_isa.specs.declared.asm.Action.{Action}
 use Rattle.rv_isa.specs.declared.asm.Action.TheVariants.{Compute, Label, Jump, Branch, Call, TailCall, Return, Routine, Hold, Unhold}
 use Rattle.rv_isa.specs.declared.asm.Operation.TheVariants.{Register, Immediate, Shift, Li, Mv, La, Lw, Sw, Dup, Free}
@@ -19,13 +20,13 @@ use Rattle.rv_isa.specs.Frames.{is_among, found}
 use Rattle.rv_isa.specs.WellFormed.{is_written, is_alive, is_alive_at, is_alive_behind, most_args, has_value, may_give, hands_over, goes_straight_on, AreDistinct, IsLineFormed}
 use Rattle.rv_regs.specs.declared.slots.Loaded.{Loaded}
 use Rattle.rv_regs.specs.Alive.{values_before, values_behind, alive_values, alive_values_at, held_values, PointLists, lists_before}
-use Rattle.rv_regs.specs.Listings.{first_alive, listed_as, both_of, marks}
+use Rattle.rv_regs.specs.Listings.{first_alive, listed_as, both_of, marks, with_copy}
 use Rattle.rv_regs.specs.Conditions.{IsAtPlace, IsNeeded, IsListed, IsListedIn, IsWritten, written_by, IsNew, IsClearOf, IsKept, StaysHeld, WriteIsHandedOut, Fits, LineFits}
-use Rattle.rv_regs.specs.Plain.{numbered, place_in, copy_in, listing_at, stored_later, copied_in, operand_at, first_register, result_register, load_from, loaded_for, pending}
+use Rattle.rv_regs.specs.Plain.{numbered, place_in, copy_in, listing_at, stored_later, copied_in, operand_at, first_register, result_register, load_from, register_args, loaded_for, operands_for, pending}
 use Rattle.rv_regs.proofs.Lists.{all_made, among_with_values}
 use Rattle.rv_regs.proofs.Aliveness.{alive_exact, alive_behind_exact, among_before, alive_distinct}
 use Rattle.rv_regs.proofs.RegisterPlaces.{IsLoadable, AreLoads, AreAmong, place_same, place_other, no_slot, slot_number, copies_handed, stands_in, load_values, number_is, loads_are, place_loaded, once_loaded}
-use Rattle.rv_regs.proofs.HeldTokens.{HoldsRight, ReadsNoneHeld, AreFree, listing_with, read_among, marked, none_behind, free_behind, result_free, held_in_slot, held_no_copy}
+use Rattle.rv_regs.proofs.HeldTokens.{HoldsRight, ReadsNoneHeld, AreFree, listing_with, read_args, marked, none_behind, register_args_among, result_free, held_in_slot}
 use Rattle.rv_regs.proofs.ListingFits.{is_listed, listed_there, stands_there, old_kept, act_fits}
 
 -- ---- the registers of an action
@@ -80,15 +81,19 @@ registers_handed Unhold k low high = handed_argument k (omega arith) (omega (ari
 
 -- what holds of each argument holds of each that is loaded
 pub loaded_values : (P : ℕ → Type 0) (action : Action) (args : List ℕ) → ((v : ℕ) → is_among v args ≡ true → P v) → AllByRecursion (λ (l : Loaded). P l.value) (loaded_for action args)
-loaded_values P Hold args h = tt
-loaded_values P Unhold args h = tt
-loaded_values P action args h = load_values P (first_register action) args h
+loaded_values P action args h = load_values P (first_register action) (register_args action args) (λ v there. h v (register_args_among action args v there))
+
+-- no more arguments are taken in registers than there are
+pub few_register_args : (action : Action) (args : List ℕ) → length (register_args action args) ≤ length args
+few_register_args Hold [] = omega arith
+few_register_args Hold (v ∷ args) = omega arith
+few_register_args Unhold args = omega arith
+few_register_args action args = omega arith
 
 pub action_loads : (action : Action) (args : List ℕ) → length args ≤ most_args action → AreLoads (loaded_for action args)
-action_loads Hold args few = tt
-action_loads Unhold args few = tt
 action_loads action args few =
-    loads_are (first_register action) args (some_registers action) (omega (arith, most_registers action)) (λ k low high. registers_handed action k low (omega (arith, high, few)))
+    loads_are (first_register action) (register_args action args) (some_registers action) (omega (arith, most_registers action, few, few_register_args action args))
+    (λ k low high. registers_handed action k low (omega (arith, high, few, few_register_args action args)))
 
 -- ---- operands stand where their action takes and gives them
 
@@ -138,11 +143,14 @@ takes_row action first loaded n (v ∷ vs) distinct takes stand =
     ∙ ap (λ m. place_in (load_from m vs) u) next))
 
 takes_args : (action : Action) (args : List ℕ) → length args ≤ most_args action → (hands_over action ≡ true → AreDistinct args)
-    → take_from action 0 (map (operand_at (place_in (loaded_for action args))) args) ≡ true
+    → take_from action 0 (operands_for action (loaded_for action args) args) ≡ true
 takes_args (Compute operation) args few distinct = takes_any (Compute operation) is_register (load_from 5 args) 0 args (λ k place t. t) (λ v t. place_loaded 5 args v t)
 takes_args (Branch condition l) args few distinct =
     takes_any (Branch condition l) is_register (load_from 5 args) 0 args (λ k place t. t) (λ v t. place_loaded 5 args v t)
-takes_args Hold args few distinct = takes_any Hold is_slot [] 0 args (λ k place t. t) (λ v t. refl)
+takes_args Hold [] few distinct = refl
+takes_args Hold (v ∷ []) few distinct = refl
+takes_args Hold (v ∷ u ∷ []) few distinct = and_from _ _ (place_loaded 10 (u ∷ []) u (or_left (u == u) false (eq-eqb u u refl))) refl
+takes_args Hold (v ∷ u ∷ w ∷ more) few distinct = absurd (omega (arith, few))
 takes_args Unhold args few distinct = takes_any Unhold is_slot [] 0 args (λ k place t. t) (λ v t. refl)
 takes_args action args few distinct = in_row action args few refl (distinct refl)
   where
@@ -151,6 +159,15 @@ takes_args action args few distinct = in_row action args few refl (distinct refl
     in_row action args few over distinct =
         takes_row action (first_register action) (load_from (first_register action) args) 0 args distinct (λ k low high. takes_number action k (omega (arith, high, few)) over)
         (λ v t. ap (λ n. place_in (load_from n args) v) (omega arith))
+
+-- what holds of each argument in its slot and in its place holds of each operand
+pub operands_made : (P : Operand → Type 0) (action : Action) (loaded : List Loaded) (args : List ℕ) → ((v : ℕ) → is_among v args ≡ true → P (operand_at (place_in []) v))
+    → ((v : ℕ) → is_among v args ≡ true → P (operand_at (place_in loaded) v)) → All P (operands_for action loaded args)
+operands_made P Hold loaded [] first each = All-nil P
+operands_made P Hold loaded (v ∷ args) first each =
+    All-cons P (operand_at (place_in []) v) (map (operand_at (place_in loaded)) args) (first v (or_left (v == v) (is_among v args) (eq-eqb v v refl)))
+    (all_made P (operand_at (place_in loaded)) args (λ u there. each u (or_right (v == u) (is_among u args) there)))
+operands_made P action loaded args first each = all_made P (operand_at (place_in loaded)) args each
 
 -- where the result comes, as an operand
 abbrev pub result_of : Action → Option ℕ → Option Operand
@@ -179,7 +196,7 @@ gives_number (Branch condition l) may = absurd (false≢true may)
 gives_number (TailCall f) may = absurd (false≢true may)
 gives_number Return may = absurd (false≢true may)
 gives_number Hold may = absurd (false≢true may)
-gives_number Unhold may = absurd (false≢true may)
+gives_number Unhold may = refl
 
 gives_result : (action : Action) (into : Option ℕ) → (has_value into ≡ true → may_give action ≡ true) → gives_into action (result_of action into) ≡ true
 gives_result action None gives = refl
@@ -263,7 +280,7 @@ module _ (action : Action) (args : List ℕ) (into : Option ℕ) (rest : List Li
   point_here = lists_before (line_here ∷ rest)
 
   abbrev reads_here : List Operand
-  reads_here = map (operand_at (place_in loaded_here)) args
+  reads_here = operands_for action loaded_here args
 
   abbrev pending_here : List Loaded
   pending_here = pending action into (alive_values rest)
@@ -292,7 +309,7 @@ module _ (action : Action) (args : List ℕ) (into : Option ℕ) (rest : List Li
   reads_none v before behind = (right.leaves v before behind).0
 
   marks_here : (v : ℕ) → marks (Some action) reads_here (listing_at (place_in []) (copy_in loaded_here) point_here.held v) ≡ listing_at (place_in []) (copy_in loaded_here) (held_values rest) v
-  marks_here v = marked action args point_here.held (held_values rest) (place_in []) (copy_in loaded_here) (place_in loaded_here) right.changes reads_none v
+  marks_here v = marked action args point_here.held (held_values rest) (place_in []) (copy_in loaded_here) loaded_here right.changes reads_none v
 
   -- a value that is not written stays in its slot, and its copy is forgotten
   stays_here : (u : ℕ) → is_alive_behind u action rest ≡ true → is_written into u ≡ false → KeptIs (listing_at (place_in []) (copy_in []) (held_values rest) u)
@@ -356,11 +373,9 @@ module _ (action : Action) (args : List ℕ) (into : Option ℕ) (rest : List Li
   stays_held : (nexts : List (List Listed)) → ListHeld nexts → (v : ℕ) → StaysHeld (marks (Some action) reads_here) nexts (listing_at (place_in []) (copy_in loaded_here) point_here.held v)
   stays_held nexts lists v held =
       let there : is_among v (held_values rest) ≡ true = sym (ap (λ (l : Listed). l.held) (marks_here v)) ∙ held in
-      let alone : copy_in loaded_here v ≡ None =
-      held_no_copy (held_values rest) loaded_here v (free_behind action args point_here.held (held_values rest) right.changes reads_none) there in
-      let is : marks (Some action) reads_here (listing_at (place_in []) (copy_in loaded_here) point_here.held v) ≡ listing_at (place_in []) (copy_in []) (held_values rest) v =
-      marks_here v ∙ ap (λ copy. listing_with v (slot v) copy (is_among v (held_values rest))) alone in
-      (tt, (alone, subst (λ (l : Listed). AllByRecursion (λ next. listed_as v next ≡ Some l) nexts) (sym is) (lists v there)))
+      let is : with_copy None (marks (Some action) reads_here (listing_at (place_in []) (copy_in loaded_here) point_here.held v)) ≡ listing_at (place_in []) (copy_in []) (held_values rest) v =
+      ap (with_copy None) (marks_here v) in
+      (tt, subst (λ (l : Listed). AllByRecursion (λ next. listed_as v next ≡ Some l) nexts) (sym is) (lists v there))
 
   abbrev FitsHere : List (List Listed) → Type 0
   FitsHere nexts = (conforms action reads_here (result_of action into) ≡ true) × Fits (copied_in loaded_here point_here) reads_here (result_of action into) (Some action) nexts
@@ -372,7 +387,8 @@ module _ (action : Action) (args : List ℕ) (into : Option ℕ) (rest : List Li
         (λ u v e. slot_number u v e) (λ v. tt) (λ v. copies_handed loaded_here v (action_loads action args formed.few)) (result_handed action into)
         (λ v there. stays_held nexts lists v)
         (λ v there. needed v (or_cases (is_among v args) (not (is_written into v) && is_among v behind_here) (sym (among_before args into behind_here v) ∙ there)))
-        (all_made (IsAtPlace (copied_in loaded_here point_here)) (operand_at (place_in loaded_here)) args
+        (operands_made (IsAtPlace (copied_in loaded_here point_here)) action loaded_here args
+        (λ v arg. stands_there (place_in []) (copy_in loaded_here) point_here v (slot v) (args_before v arg) (inl refl))
         (λ v arg. stands_there (place_in []) (copy_in loaded_here) point_here v (place_in loaded_here v) (args_before v arg) (stands_in loaded_here v)))
         kept,
   )
@@ -382,7 +398,7 @@ module _ (action : Action) (args : List ℕ) (into : Option ℕ) (rest : List Li
 
       needed : (v : ℕ) → (is_among v args ≡ true) ⊎ ((not (is_written into v) && is_among v behind_here) ≡ true)
           → IsNeeded reads_here (result_of action into) nexts (listing_at (place_in []) (copy_in loaded_here) point_here.held v)
-      needed v (inl arg) = inl (read_among (place_in loaded_here) args v ∙ arg)
+      needed v (inl arg) = inl (read_args action loaded_here args v ∙ arg)
       needed v (inr later) =
           let parts = and_parts (not (is_written into v)) (is_among v behind_here) later in
           inr (
@@ -397,7 +413,7 @@ pub line_fits : (whole after : List PlacedLine) (action : Action) (args : List �
     → first_alive after ≡ stored_later (pending action into (alive_values rest)) (lists_before rest)
     → LineFits whole after
     (does (copied_in (loaded_for action args) (lists_before (record { action = action; args = args; into = into } ∷ rest))) action
-    (map (operand_at (place_in (loaded_for action args))) args) (result_of action into))
+    (operands_for action (loaded_for action args) args) (result_of action into))
 line_fits whole after (Jump l) args into rest formed right labels first =
     let here = labels l formed.labels in
     subst (λ (o : Option (List Listed)). FitsHere (Jump l) args into rest formed right (both_of None o)) (sym here)

@@ -11,7 +11,7 @@ use Rattle.rv_isa.specs.declared.placed.Listed.{Listed}
 use Rattle.rv_isa.specs.Conventions.{is_lost}
 use Rattle.rv_isa.specs.Frames.{put}
 use Rattle.rv_isa.specs.PlacedMachine.{read_at, registers_with, slots_with, unless_lost}
-use Rattle.rv_regs.specs.Listings.{listed_as, with_copy, marks, spoils_by, is_read_in}
+use Rattle.rv_regs.specs.Listings.{listed_as, with_copy, marks, spoils_by, is_read_in, is_first_read}
 use Rattle.rv_regs.specs.Conditions.{OnCopy, AtBoth, IsWritten, written_by, IsKept, IsNew, IsCopyAt, HasCopyIn, IsCopied, StaysListed, IsClearOf, IsSafe}
 use Rattle.rv_regs.specs.Relation.{Holds}
 use Rattle.rv_regs.proofs.ValueListings.{listed_has, read_put, read_other, put_same, put_other, on_copy, on_copy_both, is_or_not}
@@ -22,12 +22,12 @@ cond_same f false x y z p q = q
 
 -- marks change no place and no copy
 pub marks_place : (action : Option Action) (reads : List Operand) (l : Listed) → (marks action reads l).place ≡ l.place
-marks_place (Some Hold) reads l = cond_same (λ (m : Listed). m.place) (is_read_in reads l.value) (record l { held = true }) l l.place refl refl
+marks_place (Some Hold) reads l = cond_same (λ (m : Listed). m.place) (is_first_read reads l.value) (record l { held = true }) l l.place refl refl
 marks_place (Some Unhold) reads l = cond_same (λ (m : Listed). m.place) (is_read_in reads l.value) (record l { held = false }) l l.place refl refl
 marks_place _ reads l = refl
 
 pub marks_copy : (action : Option Action) (reads : List Operand) (l : Listed) → (marks action reads l).copy ≡ l.copy
-marks_copy (Some Hold) reads l = cond_same (λ (m : Listed). m.copy) (is_read_in reads l.value) (record l { held = true }) l l.copy refl refl
+marks_copy (Some Hold) reads l = cond_same (λ (m : Listed). m.copy) (is_first_read reads l.value) (record l { held = true }) l l.copy refl refl
 marks_copy (Some Unhold) reads l = cond_same (λ (m : Listed). m.copy) (is_read_in reads l.value) (record l { held = false }) l l.copy refl refl
 marks_copy _ reads l = refl
 

@@ -7,7 +7,7 @@ use Rattle.kk_base.specs.Limits.{greatest_of}
 use Rattle.kk_base.specs.declared.limit.LimitKind.TheVariants.{Parameters}
 use Rattle.rv_isa.specs.declared.register.Register.{Register}
 use Rattle.rv_isa.specs.declared.asm.Action.{Action}
-use Rattle.rv_isa.specs.declared.asm.Action.TheVariants.{Label}
+use Rattle.rv_isa.specs.declared.asm.Action.TheVariants.{Label, Hold}
 use Rattle.rv_isa.specs.declared.placed.Place.{Place}
 use Rattle.rv_isa.specs.declared.placed.Listed.{Listed}
 use Rattle.rv_isa.specs.declared.placed.Way.TheVariants.{Load}
@@ -22,7 +22,7 @@ use Rattle.rv_regs.specs.declared.slots.Loaded.{Loaded}
 use Rattle.rv_regs.specs.Alive.{values_before, alive_values, alive_values_at, held_values, PointLists, lists_before}
 use Rattle.rv_regs.specs.Listings.{first_alive}
 use Rattle.rv_regs.specs.Conditions.{value_of, without_moves, IsPassed, AllFit, IsPlacing}
-use Rattle.rv_regs.specs.Plain.{numbered, place_in, copy_in, listing_at, stored_later, copied_in, operand_at, load_from, loaded_for, pending, alive_params, loads, stores, line_and_stores, placed_row, placed_code, placed_function}
+use Rattle.rv_regs.specs.Plain.{numbered, place_in, copy_in, listing_at, stored_later, copied_in, operand_at, load_from, loaded_for, operands_for, pending, alive_params, loads, stores, line_and_stores, placed_row, placed_code, placed_function}
 use Rattle.rv_regs.proofs.Lists.{all_made, without_none}
 use Rattle.rv_regs.proofs.Aliveness.{alive_exact, alive_distinct}
 use Rattle.rv_regs.proofs.RegisterPlaces.{AreLoads, place_same, place_other, place_kept, params_among, loads_kept, loads_are, number_is, once_loaded}
@@ -44,6 +44,11 @@ values_of : (place_of : ℕ → Place) (args : List ℕ) → map value_of (map (
 values_of place_of [] = refl
 values_of place_of (v ∷ vs) = ap (λ more. v ∷ more) (values_of place_of vs)
 
+values_of_operands : (action : Action) (loaded : List Loaded) (args : List ℕ) → map value_of (operands_for action loaded args) ≡ args
+values_of_operands Hold loaded [] = refl
+values_of_operands Hold loaded (v ∷ vs) = ap (λ more. v ∷ more) (values_of (place_in loaded) vs)
+values_of_operands action loaded args = values_of (place_in loaded) args
+
 value_of_result : (action : Action) (into : Option ℕ) → option_map value_of (result_of action into) ≡ into
 value_of_result action None = refl
 value_of_result action (Some v) = refl
@@ -53,9 +58,9 @@ without_row : (action : Action) (args : List ℕ) (into : Option ℕ) (before be
 without_row action args into before behind next =
     let loaded : List Loaded = loaded_for action args in
     without_loads before loaded (line_and_stores action args into before behind next)
-    ∙ ap (λ (more : List Line). record { action = action; args = map value_of (map (operand_at (place_in loaded)) args); into = option_map value_of (result_of action into) } ∷ more)
+    ∙ ap (λ (more : List Line). record { action = action; args = map value_of (operands_for action loaded args); into = option_map value_of (result_of action into) } ∷ more)
     (without_stores behind (pending action into behind.alive) next)
-    ∙ ap (λ vs. record { action = action; args = vs; into = option_map value_of (result_of action into) } ∷ without_moves next) (values_of (place_in loaded) args)
+    ∙ ap (λ vs. record { action = action; args = vs; into = option_map value_of (result_of action into) } ∷ without_moves next) (values_of_operands action loaded args)
     ∙ ap (λ o. record { action = action; args = args; into = o } ∷ without_moves next) (value_of_result action into)
 
 code_is : (code : List Line) → without_moves (placed_code code) ≡ code

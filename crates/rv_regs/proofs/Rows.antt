@@ -8,10 +8,10 @@ use Rattle.rv_isa.specs.PlacedCode.{PlacedLine, does, moves, PlacedLines}
 use Rattle.rv_isa.specs.Primitives.{Reply, answers, ends, fails, Primitives, ended, stuck, or_stuck, by_token}
 use Rattle.rv_isa.specs.Conventions.{conforms}
 use Rattle.rv_isa.specs.Costs.{argument_moves, result_moves, move_instructions}
-use Rattle.rv_isa.specs.Frames.{Frame, empty, put, all_of, found, top, top_taken, taken_in, taken_if, only_of, result_of, received, holding, unholding}
+use Rattle.rv_isa.specs.Frames.{Frame, empty, put, all_of, found, top, top_taken, taken_in, taken_if, only_of, twice_of, result_of, received, holding, unholding}
 use Rattle.rv_isa.specs.AsmMachine.{is_label, unless_held}
-use Rattle.rv_isa.specs.PlacedMachine.{PlacedTurn, is_label_line, read_at, kept_by, passed, awaited, only_slot, placed_entered, placed_goes, unless_lost, placed_gives, placed_jumps, placed_returns, placed_answered, placed_served, placed_acts, placed_line}
-use Rattle.rv_regs.specs.Relation.{leading, first_args, stores_behind, MovesWithin, FunctionMovesWithin, AllMovesWithin, FramesMovesWithin, stores_before, HasMovesWithin}
+use Rattle.rv_isa.specs.PlacedMachine.{PlacedTurn, is_label_line, read_at, kept_by, passed, awaited, only_slot, first_slot, placed_entered, placed_goes, unless_lost, placed_gives, placed_jumps, placed_returns, placed_answered, placed_served, placed_acts, placed_line}
+use Rattle.rv_regs.specs.Relation.{leading, argument_loads, first_args, stores_behind, MovesWithin, FunctionMovesWithin, AllMovesWithin, FramesMovesWithin, stores_before, HasMovesWithin}
 
 -- the stores for the arguments of an action, behind it or in its callee
 abbrev pub argument_stores : Action → ℕ → ℕ
@@ -20,8 +20,8 @@ argument_stores (Call f) count = count
 argument_stores (TailCall f) count = count
 argument_stores _ count = 0
 
--- each argument is loaded, and may be stored
-pub moves_are : (action : Action) (count : ℕ) → argument_moves action count ≡ count + argument_stores action count
+-- each argument that is not in its slot is loaded, and may be stored
+pub moves_are : (action : Action) (count : ℕ) → argument_moves action count ≡ argument_loads action count + argument_stores action count
 moves_are (Compute operation) count = omega arith
 moves_are (Call f) count = omega arith
 moves_are (TailCall f) count = omega arith
@@ -172,17 +172,18 @@ module _ (extra : ℕ) where
     holds_few g gs registers shared args into words few here fits paid =
         let goes : List ℕ → H → PlacedTurn H W = λ held next. placed_goes (record g { held = held }) gs (kept_by Hold registers) next in
         let on : ℕ → List ℕ → PlacedTurn H W = λ word held. or_stuck (by_token m.hold word shared) (goes held) in
-        some_few credit (only_slot args) (λ k. or_stuck (only_of words) (λ word. or_stuck (holding k word g.held) (on word)))
-        (λ k e. some_few credit (only_of words) (λ word. or_stuck (holding k word g.held) (on word))
+        some_few credit (first_slot args) (λ k. or_stuck (twice_of words) (λ word. or_stuck (holding k word g.held) (on word)))
+        (λ k e. some_few credit (twice_of words) (λ word. or_stuck (holding k word g.held) (on word))
         (λ word e'. some_few credit (holding k word g.held) (on word) (λ held e''. some_few credit (by_token m.hold word shared) (goes held) (λ next e'''. (few, omega (arith, here, paid))))))
 
     takes_few : Acts Unhold
     takes_few g gs registers shared args into words few here fits paid =
-        let goes : List ℕ → H → PlacedTurn H W = λ held next. placed_goes (record g { held = held }) gs (kept_by Unhold registers) next in
-        let on : ℕ → List ℕ → PlacedTurn H W = λ word held. or_stuck (by_token m.unhold word shared) (goes held) in
+        let goes : ℕ → List ℕ → H → PlacedTurn H W = λ word held next. placed_gives into word (record g { held = held }) gs (kept_by Unhold registers) next in
+        let on : ℕ → List ℕ → PlacedTurn H W = λ word held. or_stuck (by_token m.unhold word shared) (goes word held) in
         some_few credit (only_slot args) (λ k. or_stuck (only_of words) (λ word. or_stuck (unholding k word g.held) (on word)))
         (λ k e. some_few credit (only_of words) (λ word. or_stuck (unholding k word g.held) (on word))
-        (λ word e'. some_few credit (unholding k word g.held) (on word) (λ held e''. some_few credit (by_token m.unhold word shared) (goes held) (λ next e'''. (few, omega (arith, here, paid))))))
+        (λ word e'. some_few credit (unholding k word g.held) (on word) (λ held e''. some_few credit (by_token m.unhold word shared) (goes word held)
+        (λ next e'''. gives_few W credit into word (record g { held = held }) gs (kept_by Unhold registers) next (few, omega (arith, here, paid))))))
 
     acts_few : (action : Action) → Acts action
     acts_few (Compute operation) g gs registers shared args into words few here fits paid =

@@ -1,5 +1,5 @@
 -- The shape of a function in the plainest places.
-use Rattle.std.proofs.Common.{◌≡◌, ◌<◌, ◌≤◌, ◌+◌, ◌*◌, ℕ, suc, List, [], ◌∷◌, Option, Some, None, Bool, true, All, refl, arith, map, length}
+use Rattle.std.proofs.Common.{◌≡◌, ◌<◌, ◌≤◌, ◌+◌, ◌*◌, ℕ, suc, List, [], ◌∷◌, Option, Some, None, Bool, true, All, refl, ap, arith, length}
 use Rattle.std.specs.List.{filter}
 use Rattle.std.proofs.lemmas.Bool.{cond_both}
 use Rattle.std.proofs.lemmas.List.{length-map}
@@ -22,13 +22,13 @@ use Rattle.rv_isa.specs.WellFormed.{AreLinesFormed, IsWellFormed, most_args}
 use Rattle.rv_isa.specs.Costs.{argument_moves, result_moves, move_instructions, code_length, placed_code_length}
 use Rattle.rv_regs.specs.declared.slots.Loaded.{Loaded}
 use Rattle.rv_regs.specs.Alive.{alive_values, PointLists, lists_before}
-use Rattle.rv_regs.specs.Plain.{numbered, place_in, copy_in, listing_at, listings, copied_in, operand_at, first_register, result_register, load_from, loaded_for, pending, alive_params, loads, stores, line_and_stores, placed_code, placed_function}
-use Rattle.rv_regs.specs.Relation.{leading, first_args, stores_behind, FewMoves}
+use Rattle.rv_regs.specs.Plain.{numbered, place_in, copy_in, listing_at, listings, copied_in, operand_at, first_register, result_register, load_from, register_args, loaded_for, operands_for, pending, alive_params, loads, stores, line_and_stores, placed_code, placed_function}
+use Rattle.rv_regs.specs.Relation.{leading, argument_loads, first_args, stores_behind, FewMoves}
 use Rattle.rv_regs.specs.Shape.{IsBelow, IsResultBelow, HasSlotsBelow, AllSlotsBelow, IsModest}
 use Rattle.rv_regs.proofs.Lists.{all_made, each_among}
 use Rattle.rv_regs.proofs.Aliveness.{alive_small}
 use Rattle.rv_regs.proofs.RegisterPlaces.{AreAmong, params_among}
-use Rattle.rv_regs.proofs.OperandPlaces.{result_of, most_registers, pending_among, args_alive}
+use Rattle.rv_regs.proofs.OperandPlaces.{result_of, few_register_args, operands_made, most_registers, pending_among, args_alive}
 
 -- ---- how many
 
@@ -38,10 +38,15 @@ few_loads n (v ∷ vs) =
     let later = few_loads (suc n) vs in
     cond_both (is_among v vs) (load_from (suc n) vs) (record { value = v; register = numbered n } ∷ load_from (suc n) vs) (λ (ls : List Loaded). length ls ≤ suc (length vs)) (λ t. omega (arith, later)) (λ t. omega (arith, later))
 
-few_loaded_for : (action : Action) (args : List ℕ) → length (loaded_for action args) ≤ length args
-few_loaded_for Hold args = omega arith
+few_loaded_for : (action : Action) (args : List ℕ) → length (loaded_for action args) ≤ argument_loads action (length args)
+few_loaded_for Hold args = omega (arith, few_loads (first_register Hold) (register_args Hold args), few_register_args Hold args)
 few_loaded_for Unhold args = omega arith
 few_loaded_for action args = few_loads (first_register action) args
+
+many_operands : (action : Action) (loaded : List Loaded) (args : List ℕ) → length (operands_for action loaded args) ≡ length args
+many_operands Hold loaded [] = refl
+many_operands Hold loaded (v ∷ args) = ap suc (length-map args (operand_at (place_in loaded)))
+many_operands action loaded args = length-map args (operand_at (place_in loaded))
 
 few_kept : (test : Loaded → Bool) (ls : List Loaded) → length (filter test ls) ≤ length ls
 few_kept test [] = omega arith
@@ -58,7 +63,7 @@ few_pending action None behind = omega arith
 few_pending action (Some v) behind =
     cond_both (is_among v behind) (record { value = v; register = numbered (result_register action) } ∷ []) [] (λ (ls : List Loaded). length ls ≤ 1) (λ t. omega arith) (λ t. omega arith)
 
-moves_enough : (action : Action) (count : ℕ) → count ≤ argument_moves action count
+moves_enough : (action : Action) (count : ℕ) → argument_loads action count ≤ argument_moves action count
 moves_enough (Compute operation) count = omega arith
 moves_enough (Call f) count = omega arith
 moves_enough (TailCall f) count = omega arith
@@ -102,7 +107,7 @@ leading_code (line ∷ rest) =
       leading_loads (lists_before (line ∷ rest)) (loaded_for line.action line.args) (line_and_more line rest),
       args_loads (lists_before (line ∷ rest)) (loaded_for line.action line.args) (line_and_more line rest),
       few_loaded_for line.action line.args,
-      length-map line.args (operand_at (place_in (loaded_for line.action line.args))),
+      ap (argument_loads line.action) (many_operands line.action (loaded_for line.action line.args) line.args),
     )
 
 -- stores, so many, before such code
@@ -123,7 +128,7 @@ few_code : (code : List Line) → AreLinesFormed code → FewMoves (placed_code 
 few_code [] formed = tt
 few_code (line ∷ rest) formed =
     let loaded : List Loaded = loaded_for line.action line.args in
-    let operands : List Operand = map (operand_at (place_in loaded)) line.args in
+    let operands : List Operand = operands_for line.action loaded line.args in
     let behind : result_moves line.into ≤ stores_behind line.action operands (result_of line.action line.into) =
     stores_enough line.action operands (result_of line.action line.into) (result_moves line.into) (same_given line.action line.into) in
     few_loaded (lists_before (line ∷ rest)) loaded (line_and_more line rest) (
@@ -200,7 +205,8 @@ below_code most (line ∷ rest) below =
       (
         below_listed most [] loaded (lists_before (line ∷ rest)) small_before,
         (
-          all_made (λ (arg : Operand). IsBelow most arg.place) (operand_at (place_in loaded)) line.args
+          operands_made (λ (arg : Operand). IsBelow most arg.place) line.action loaded line.args
+              (λ v arg. each_among (λ (u : ℕ). u < most) line.args v below.0.0 arg)
               (λ v arg. below_place most loaded v (each_among (λ (u : ℕ). u < most) line.args v below.0.0 arg)),
           below_result most line.action line.into,
         ),

@@ -11,7 +11,7 @@ use Rattle.rv_isa.specs.Costs.{result_moves, move_instructions}
 use Rattle.rv_isa.specs.Frames.{Frame, put, all_of}
 use Rattle.rv_isa.specs.AsmMachine.{AsmTurn, asm_acts, asm_line, asm_line_weight, asm_goes, asm_entered, bound, unless_held}
 use Rattle.rv_regs.specs.Conditions.{value_of, without_moves, ArePlacings}
-use Rattle.rv_regs.specs.Relation.{first_args}
+use Rattle.rv_regs.specs.Relation.{argument_loads, first_args}
 use Rattle.rv_regs.proofs.Rows.{moves_are, some_mapped, CallFits}
 use Rattle.rv_regs.proofs.Steps.{callee_both}
 
@@ -22,7 +22,8 @@ same_result (Some o) = refl
 -- what the next statement loads is paid for with it
 pub loads_paid : {H E W : Type 0} (m : Primitives H E W) (frames : List (Frame Line)) (shared : H) (f : Frame Line) (code : List PlacedLine) → first_args code * move_instructions ≤ asm_line_weight m frames shared f (without_moves code)
 loads_paid m frames shared f [] = omega arith
-loads_paid m frames shared f (does alive action args into ∷ rest) = omega (arith, moves_are action (length (map value_of args)), length-map args value_of)
+loads_paid m frames shared f (does alive action args into ∷ rest) =
+    omega (arith, moves_are action (length (map value_of args)), ap (argument_loads action) (length-map args value_of))
 loads_paid m frames shared f (moves alive value way ∷ rest) = loads_paid m frames shared f rest
 
 -- ---- as many parameters as arguments

@@ -6,7 +6,7 @@ use Rattle.rv_isa.specs.declared.asm.Action.TheVariants.{Jump, Branch, TailCall,
 use Rattle.rv_isa.specs.AsmCode.{Line}
 use Rattle.rv_isa.specs.AsmMachine.{is_label}
 use Rattle.rv_isa.specs.Frames.{is_among}
-use Rattle.rv_isa.specs.WellFormed.{is_written}
+use Rattle.rv_isa.specs.WellFormed.{is_written, first_of}
 
 -- a list with one value more, unless the value is in it
 abbrev pub with_value : ℕ → List ℕ → List ℕ
@@ -44,7 +44,7 @@ abbrev mutual
 
 -- what is held before an action, the newest value first, by what is held behind it
 abbrev pub held_before : Action → List ℕ → List ℕ → List ℕ
-held_before Hold args behind = drop (length args) behind
+held_before Hold args behind = drop (length (first_of args)) behind
 held_before Unhold args behind = args ++ behind
 held_before _ args behind = behind
 

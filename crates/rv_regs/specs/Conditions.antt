@@ -134,14 +134,14 @@ abbrev pub WriteIsHandedOut : Option Action → Option Operand → Type 0
 WriteIsHandedOut action None = ⊤
 WriteIsHandedOut action (Some into) = IsHandedOut into.place × (may_set action into.place ≡ true)
 
--- 11. A token that is held behind the line stands in a slot, without a copy, and stays there, held, at each next point.
+-- 11. A token that is held behind the line stands in a slot, and stays there, held and without a copy, at each next point.
 abbrev pub IsInSlot : Place → Type 0
 IsInSlot (register r) = ⊥
 IsInSlot (slot k) = ⊤
 
 abbrev pub StaysHeld : (Listed → Listed) → List (List Listed) → Listed → Type 0
 StaysHeld marking nexts l =
-    (marking l).held ≡ true → IsInSlot l.place × ((l.copy ≡ None) × AllByRecursion (λ next. listed_as l.value next ≡ Some (marking l)) nexts)
+    (marking l).held ≡ true → IsInSlot l.place × AllByRecursion (λ next. listed_as l.value next ≡ Some (with_copy None (marking l))) nexts
 
 -- All of it for a line: what is alive before it, what it reads and writes, its action if it is no move, and what is alive at
 -- each point where it goes on.

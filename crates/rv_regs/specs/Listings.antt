@@ -50,14 +50,20 @@ abbrev pub is_read_in : List Operand → ℕ → Bool
 is_read_in [] v = false
 is_read_in (arg ∷ args) v = (arg.value == v) || is_read_in args v
 
+-- whether a value is the first one that is read
+abbrev pub is_first_read : List Operand → ℕ → Bool
+is_first_read [] v = false
+is_first_read (arg ∷ args) v = arg.value == v
+
 -- A move is no action. Whether a line may change a register, besides what it writes:
 abbrev pub spoils_by : Option Action → ℕ → Bool
 spoils_by None x = false
 spoils_by (Some action) x = spoils action x
 
--- The listing behind a line of what is listed before it: a token is held from its Hold to its Unhold.
+-- The listing behind a line of what is listed before it: a token is held from its Hold, of which it is the first argument, to its
+-- Unhold.
 abbrev pub marks : Option Action → List Operand → Listed → Listed
-marks (Some Hold) reads l = cond (is_read_in reads l.value) (record l { held = true }) l
+marks (Some Hold) reads l = cond (is_first_read reads l.value) (record l { held = true }) l
 marks (Some Unhold) reads l = cond (is_read_in reads l.value) (record l { held = false }) l
 marks _ reads l = l
 

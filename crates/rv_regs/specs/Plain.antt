@@ -1,6 +1,6 @@
 -- The plainest places. Each value has a slot of its own. Before a line that reads it, it is loaded: a register has a copy. What a
--- line writes stands in a register, and is stored behind the line if it is alive there. A token that is held or taken back is
--- not loaded.
+-- line writes stands in a register, and is stored behind the line if it is alive there. Each argument is loaded
+-- that its action takes in a register: of a Hold the second one, of an Unhold none.
 use Rattle.std.specs.Prelude.{ℕ, suc, ◌%◌, ◌^◌, ◌==◌, List, [], ◌∷◌, Option, Some, None, cond, map, option_map}
 use Rattle.std.specs.List.{filter}
 use Rattle.std.proofs.Common.{lit<}
@@ -72,11 +72,22 @@ abbrev pub load_from : ℕ → List ℕ → List Loaded
 load_from n [] = []
 load_from n (v ∷ vs) = cond (is_among v vs) (load_from (suc n) vs) (record { value = v; register = numbered n } ∷ load_from (suc n) vs)
 
--- what is loaded for an action: its arguments, unless it holds a token or takes one back
+-- the arguments that an action takes in registers: a token that is held or taken back is in its slot
+abbrev pub register_args : Action → List ℕ → List ℕ
+register_args Hold [] = []
+register_args Hold (v ∷ args) = args
+register_args Unhold args = []
+register_args action args = args
+
+-- what is loaded for an action
 abbrev pub loaded_for : Action → List ℕ → List Loaded
-loaded_for Hold args = []
-loaded_for Unhold args = []
-loaded_for action args = load_from (first_register action) args
+loaded_for action args = load_from (first_register action) (register_args action args)
+
+-- the operands of an action while these are in registers
+abbrev pub operands_for : Action → List Loaded → List ℕ → List Operand
+operands_for Hold loaded [] = []
+operands_for Hold loaded (v ∷ args) = operand_at (place_in []) v ∷ map (operand_at (place_in loaded)) args
+operands_for action loaded args = map (operand_at (place_in loaded)) args
 
 -- what is stored behind a line: its result, where it is alive there
 abbrev pub pending : Action → Option ℕ → List ℕ → List Loaded
@@ -103,7 +114,7 @@ stores point (l ∷ loaded) next = moves (stored_later (l ∷ loaded) point) l.v
 abbrev pub line_and_stores : Action → List ℕ → Option ℕ → PointLists → PointLists → List PlacedLine → List PlacedLine
 line_and_stores action args into before behind next =
     let loaded = loaded_for action args in
-    does (copied_in loaded before) action (map (operand_at (place_in loaded)) args) (option_map (operand_at (λ v. register (numbered (result_register action)))) into)
+    does (copied_in loaded before) action (operands_for action loaded args) (option_map (operand_at (λ v. register (numbered (result_register action)))) into)
     ∷ stores behind (pending action into behind.alive) next
 
 -- and with its loads

@@ -3,7 +3,7 @@ use Rattle.std.specs.Prelude.{◌≡◌, ◌≢◌, ◌⊎◌, ◌≤◌, ◌+�
 use Rattle.std.specs.List.{AllByRecursion}
 use Rattle.kk_base.specs.Machines.{Machine, state}
 use Rattle.rv_isa.specs.declared.asm.Action.{Action}
-use Rattle.rv_isa.specs.declared.asm.Action.TheVariants.{Compute}
+use Rattle.rv_isa.specs.declared.asm.Action.TheVariants.{Compute, Unhold}
 use Rattle.rv_isa.specs.declared.placed.Place.{Place}
 use Rattle.rv_isa.specs.declared.placed.Place.TheVariants.{Slot as slot}
 use Rattle.rv_isa.specs.declared.placed.Operand.{Operand}
@@ -95,10 +95,15 @@ leading [] = 0
 leading (does alive action args into ∷ code) = 0
 leading (moves alive value way ∷ code) = suc (leading code)
 
--- the arguments of the first statement of code, each of which may be loaded before it
+-- the loads for so many arguments: a token that is taken back is in its slot
+abbrev pub argument_loads : Action → ℕ → ℕ
+argument_loads Unhold count = 0
+argument_loads action count = count
+
+-- the loads that may stand before the first statement of code, for its arguments
 abbrev pub first_args : List PlacedLine → ℕ
 first_args [] = 0
-first_args (does alive action args into ∷ code) = length args
+first_args (does alive action args into ∷ code) = argument_loads action (length args)
 first_args (moves alive value way ∷ code) = first_args code
 
 -- the stores behind a statement: of its result, and of what a computation has read

@@ -50,6 +50,7 @@ fn takes(action: Action, index: usize, place: Place) -> bool
         Action::Label(_) | Action::Jump(_) => false,
         Action::Call(_) | Action::TailCall(_) | Action::Return => { is_argument(index, place) }
         Action::Routine(routine) => place.is_in_any(routine.takes(index)),
+        Action::Hold if index > 0 => is_any_register(place),
         Action::Hold | Action::Unhold => is_any_slot(place),
     }
 }
@@ -62,6 +63,7 @@ fn gives(action: Action, place: Place) -> bool
         Action::Compute(_) => is_any_register(place),
         Action::Call(_) => place.is_in(10),
         Action::Routine(routine) => place.is_in_any(routine.gives()),
+        Action::Unhold => is_any_register(place),
         _ => false,
     }
 }

@@ -3,7 +3,7 @@
 ghost use Rattle.std.specs.Prelude.{◌≡◌, ◌≢◌, ◌⊎◌, ◌↔◌, [], IsTrue, All, option_map};
 ghost use Rattle.std.specs.List.{AllByRecursion};
 ghost use Rattle.rv_isa.specs.declared.placed.Place.{Place};
-ghost use Rattle.rv_regs.specs.Listings.{one_if, both_of, listed_as, with_copy, spoils_by, marks};
+ghost use Rattle.rv_regs.specs.Listings.{one_if, both_of, listed_as, with_copy, is_first_read, spoils_by, marks};
 ghost use Rattle.rv_regs.specs.Conditions.{OnCopy, AtBoth, written_by, IsNew, HasCopyIn, IsCopied, IsAtCopy, StaysListed, IsClearOf, IsSafe};
 ghost use Rattle.rv_regs.specs.Conditions.{IsKept, IsNeeded, IsListedIn, IsHandedOut, WriteIsHandedOut, IsInSlot, StaysHeld};
 ghost use Rattle.rv_regs.specs.Views.{point_of};
@@ -26,12 +26,21 @@ pub fn may_spoil(action: Option<Action>, register: u8) -> bool
     }
 }
 
+fn is_first_read(reads: &[Operand], value: u32) -> bool
+    ensures { result ≡ is_first_read reads.now value }
+{
+    match reads.first() {
+        Some(first) => first.value == value,
+        None => false,
+    }
+}
+
 /// The listing behind a line of what is listed before it.
 pub fn marking(action: Option<Action>, reads: &[Operand], listed: Listed) -> Listed
     ensures { result ≡ marks action reads.now listed }
 {
     match action {
-        Some(Action::Hold) if is_read(reads, listed.value) => Listed {
+        Some(Action::Hold) if is_first_read(reads, listed.value) => Listed {
             held: true,
             ..listed
         },
@@ -333,11 +342,10 @@ fn stays_held(
     let after = marking(action, reads, listed);
     !after.held
         || is_in_slot(listed.place)
-            && listed.copy.is_none()
-            && is_listed_at_each(listed.value, after, behind, at_label)
+            && is_listed_at_each(listed.value, copied_to(None, after), behind, at_label)
 }
 
-/// Whether what is held behind the line stands in a slot, without a copy, and stays there, held, where the line goes on.
+/// Whether what is held behind the line stands in a slot, and stays there, held and without a copy, where the line goes on.
 pub fn all_stay_held(
     alive: &[Listed],
     reads: &[Operand],

@@ -1,9 +1,9 @@
 // Which values are alive, and which are held tokens: the lists of a line, by those of what follows it.
 
-ghost use Rattle.std.specs.Prelude.{◌≡◌, ◌==◌, ℕ, [], IfOk, OnOk, cond};
+ghost use Rattle.std.specs.Prelude.{◌≡◌, ◌==◌, ℕ, [], IfOk, OnOk, cond, length};
 ghost use Rattle.rv_isa.specs.AsmMachine.{is_label};
 ghost use Rattle.rv_isa.specs.Frames.{is_among};
-ghost use Rattle.rv_isa.specs.WellFormed.{is_written};
+ghost use Rattle.rv_isa.specs.WellFormed.{is_written, first_of};
 ghost use Rattle.rv_regs.specs.Alive.{with_values, without, values_before, values_behind, held_before};
 ghost use Rattle.rv_regs.specs.Tables.{last_at};
 
@@ -142,6 +142,16 @@ pub fn with_point(
     Ok(points)
 }
 
+// How many tokens a Hold with these arguments holds: the first one.
+fn count_of_tokens(args: &[u32]) -> usize
+    ensures { result ≡ length (first_of args.now) }
+{
+    match args.first() {
+        Some(_) => 1,
+        None => 0,
+    }
+}
+
 /// The tokens that are held before a statement, by those behind it, the newest first.
 pub fn held_before(
     alloc: Global,
@@ -152,7 +162,13 @@ pub fn held_before(
     ensures { IfOk result (λ held. held.items ≡ held_before action args.now behind.now) }
 {
     match action {
-        Action::Hold => Ok(behind.iter().copied().skip(args.len()).collect(alloc)?),
+        Action::Hold => Ok(
+            behind
+                .iter()
+                .copied()
+                .skip(count_of_tokens(args))
+                .collect(alloc)?,
+        ),
         Action::Unhold => {
             let mut held = copy_of(alloc, args)?;
             held.extend_from_slice(behind)?;

@@ -9,8 +9,8 @@ use crate::places::listing;
 use crate::plans::{Care, Due, Plan, Plans, goes_on, named_label, plans_of, spoils_many};
 use crate::state::{
     argument_register, is_free, is_in, is_to_be_had, is_wished_for, operands_at, register_of,
-    same_state, standing_in, stands_in, state_at, state_behind, state_clear_of, state_uncopied,
-    state_without, wished_register,
+    same_state, standing_in, stands_in, state_at, state_behind, state_clear_of, state_without,
+    wished_register,
 };
 use kk_base::NoMemory;
 use rv_isa::{
@@ -337,6 +337,7 @@ fn result_for(
             let idle = idle_register(&walk.state, operation, args, value, plan);
             register_for(walk, &[], plan, value, idle)
         }
+        Action::Unhold => register_for(walk, &[], plan, value, None),
         _ => Ok(Register::A0),
     }
 }
@@ -362,6 +363,14 @@ fn put_result(
         settle(alloc, walk, listed, register, behind, care)?;
     }
     Ok(())
+}
+
+// The loads that may stand before a statement. A token that is taken back is in its slot.
+fn loads_before(statement: &Statement) -> usize {
+    match statement.action {
+        Action::Unhold => 0,
+        _ => statement.args.len(),
+    }
 }
 
 // The moves that may stand behind a statement.
@@ -442,11 +451,11 @@ fn prepare(
             }
             arrange(alloc, walk, &statement.args)
         }
-        Action::Hold | Action::Unhold => {
+        Action::Hold => {
             store_all(alloc, walk, &statement.args)?;
-            walk.state = state_uncopied(alloc, &walk.state, &statement.args)?;
-            Ok(())
+            fetch(alloc, walk, &statement.args, before)
         }
+        Action::Unhold => store_all(alloc, walk, &statement.args),
         Action::Label(_) | Action::Jump(_) => Ok(()),
     }
 }
@@ -528,7 +537,7 @@ fn step(
     plans: &Plans,
     care: &Care,
 ) -> Result<(), NoMemory> {
-    walk.left = walk.left.saturating_add(statement.args.len());
+    walk.left = walk.left.saturating_add(loads_before(statement));
     walk.ahead = copy_of(alloc, &before.ahead)?;
     if walk.is_reached {
         pay(alloc, walk, before, care)?;

@@ -9,7 +9,7 @@ ghost use Rattle.rv_isa.specs.AsmCode.{line_of, lines_of};
 ghost use Rattle.rv_isa.specs.PlacedCode.{placed_line_of, placed_lines_of, from_of, to_of};
 ghost use Rattle.rv_isa.specs.Costs.{operation_instructions, move_instructions, tail_call_length, action_length, result_moves, line_length, code_length, placed_line_length, placed_code_length};
 ghost use Rattle.rv_isa.specs.ValueBounds.{AreValuesBelow, IsWrittenBelow, AreLinesBelow, HasValuesBelow};
-ghost use Rattle.rv_regs.specs.Relation.{stores_behind, FunctionFewMoves};
+ghost use Rattle.rv_regs.specs.Relation.{argument_loads, stores_behind, FunctionFewMoves};
 ghost use Rattle.rv_regs.specs.Shape.{IsBelow, IsResultBelow, HasSlotsBelow, AllSlotsBelow, HasOwnSlots, IsModest};
 
 use crate::checking::{from, to};
@@ -158,6 +158,16 @@ fn stores_of(action: Action, args: &[Operand], into: Option<Operand>) -> usize
     }
 }
 
+// The loads that may stand before a line with so many arguments: a token that is taken back is in its slot.
+fn loads_of(action: Action, args: &[Operand]) -> usize
+    ensures { result ≡ argument_loads action (length args.now) }
+{
+    match action {
+        Action::Unhold => 0,
+        _ => args.len(),
+    }
+}
+
 // How many moves are counted at most.
 const MOST_COUNT: usize = 100;
 
@@ -177,7 +187,7 @@ fn has_few_moves(placed: &PlacedFunction) -> bool
                 into,
                 ..
             } => {
-                if args.len() > most_arguments() || count > most + args.len() {
+                if args.len() > most_arguments() || count > most + loads_of(*action, args) {
                     return false;
                 }
                 most = stores_of(*action, args, *into);
@@ -220,7 +230,7 @@ fn length_of_action(action: Action) -> u32
         Action::TailCall(_) => TAIL_CALL_LENGTH,
         Action::Return => 4,
         Action::Routine(_) => 2,
-        Action::Hold => 6,
+        Action::Hold => 5,
         Action::Unhold => 3,
     }
 }
@@ -241,6 +251,7 @@ fn length_of(statement: &Statement) -> u32
     let args = statement.args.len() as u32;
     match statement.action {
         Action::Compute(_) | Action::Call(_) | Action::TailCall(_) => 2 * args + results + action,
+        Action::Unhold => results + action,
         _ => args + results + action,
     }
 }

@@ -4,10 +4,11 @@ ghost use Rattle.std.specs.Prelude.{◌≡◌, ◌+◌, ◌<◌, ◌≤◌, ◌+
 ghost use Rattle.std.specs.List.{filter};
 ghost use Rattle.kk_base.specs.Limits.{greatest_of};
 ghost use Rattle.kk_base.specs.declared.limit.LimitKind.TheVariants.{Parameters};
+ghost use Rattle.rv_isa.specs.declared.asm.Action.TheVariants.{Hold};
 ghost use Rattle.rv_isa.specs.Conventions.{argument};
 ghost use Rattle.rv_isa.specs.Frames.{is_among};
 ghost use Rattle.rv_regs.specs.declared.slots.Loaded.{Loaded};
-ghost use Rattle.rv_regs.specs.Plain.{numbered, place_in, copy_in, listings, operand_at, first_register, result_register, load_from, loaded_for, pending, stored_later, copied_in};
+ghost use Rattle.rv_regs.specs.Plain.{numbered, place_in, copy_in, listings, operand_at, first_register, result_register, load_from, register_args, loaded_for, operands_for, pending, stored_later, copied_in};
 ghost use Rattle.rv_regs.specs.Views.{lists_of};
 
 use crate::liveness::{Point, is_one_of};
@@ -67,15 +68,26 @@ pub fn loaded_from(alloc: Global, first: u8, values: &[u32]) -> Result<Vec<Loade
     Ok(loaded)
 }
 
+// The arguments that an action takes in registers. A token that is held or taken back is in its slot.
+fn args_in_registers<'a>(action: Action, args: &'a [u32]) -> &'a [u32]
+    ensures { result.now ≡ register_args action args.now }
+{
+    match action {
+        Action::Hold => match args.split_first() {
+            Some((_, others)) => others,
+            None => args,
+        },
+        Action::Unhold => &[],
+        _ => args,
+    }
+}
+
 /// The arguments of an action in the registers that it takes them in. A token that is held or taken back stays in its slot.
 pub fn loaded_for(alloc: Global, action: Action, args: &[u32]) -> Result<Vec<Loaded>, NoMemory>
     requires { length args.now ≤ greatest_of Parameters }
     ensures { IfOk result (λ loaded. loaded.items ≡ loaded_for action args.now) }
 {
-    match action {
-        Action::Hold | Action::Unhold => Ok(Vec::new(alloc)),
-        _ => loaded_from(alloc, first_number(action), args),
-    }
+    loaded_from(alloc, first_number(action), args_in_registers(action, args))
 }
 
 fn place_of(loaded: &[Loaded], value: u32) -> Place
@@ -142,8 +154,8 @@ pub fn copied_in(alloc: Global, loaded: &[Loaded], point: &Point) -> Result<Vec<
     listed(alloc, &[], loaded, point)
 }
 
-/// The operands of values, some of which are in registers.
-pub fn operands(alloc: Global, loaded: &[Loaded], values: &[u32]) -> Result<Vec<Operand>, NoMemory>
+// The operands of values, some of which are in registers.
+fn operands(alloc: Global, loaded: &[Loaded], values: &[u32]) -> Result<Vec<Operand>, NoMemory>
     ensures { IfOk result (λ operands. operands.items ≡ map (operand_at (place_in loaded.now)) values.now) }
 {
     Ok(
@@ -155,6 +167,39 @@ pub fn operands(alloc: Global, loaded: &[Loaded], values: &[u32]) -> Result<Vec<
             })
             .collect(alloc)?,
     )
+}
+
+// The operands of a Hold: the token in its slot, and the others.
+fn operands_of_hold(
+    alloc: Global,
+    loaded: &[Loaded],
+    args: &[u32],
+) -> Result<Vec<Operand>, NoMemory>
+    ensures { IfOk result (λ operands. operands.items ≡ operands_for Hold loaded.now args.now) }
+{
+    match args.split_first() {
+        Some((value, others)) => {
+            let mut all = operands(alloc, &[], &[*value])?;
+            all.extend_from_slice(&operands(alloc, loaded, others)?)?;
+            Ok(all)
+        }
+        None => Ok(Vec::new(alloc)),
+    }
+}
+
+/// The operands of the arguments of an action, some of which are in registers.
+pub fn operands_for(
+    alloc: Global,
+    action: Action,
+    loaded: &[Loaded],
+    args: &[u32],
+) -> Result<Vec<Operand>, NoMemory>
+    ensures { IfOk result (λ operands. operands.items ≡ operands_for action loaded.now args.now) }
+{
+    match action {
+        Action::Hold => operands_of_hold(alloc, loaded, args),
+        _ => operands(alloc, loaded, args),
+    }
 }
 
 /// What is stored behind a statement: its result, if it is alive there.

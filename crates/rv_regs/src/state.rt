@@ -209,26 +209,6 @@ pub fn state_behind(
     Ok(next)
 }
 
-/// The listings without copies of these values.
-pub fn state_uncopied(
-    alloc: Global,
-    state: &[Listed],
-    values: &[u32],
-) -> Result<Vec<Listed>, NoMemory> {
-    let mut next = Vec::new(alloc);
-    for listed in state {
-        if is_one_of(listed.value, values) {
-            next.push(Listed {
-                copy: None,
-                ..*listed
-            })?;
-        } else {
-            next.push(*listed)?;
-        }
-    }
-    Ok(next)
-}
-
 /// The same listings, in memory of their own, where the register has no copy.
 pub fn state_clear_of(
     alloc: Global,
@@ -254,11 +234,12 @@ pub fn same_state(alloc: Global, state: &[Listed]) -> Result<Vec<Listed>, NoMemo
 fn operand_of(state: &[Listed], action: Action, index: usize, value: u32) -> Operand {
     let slot = Place::Slot(value);
     let found = match action {
-        Action::Compute(_) | Action::Branch(..) => match listing(state, value) {
+        Action::Hold if index == 0 => None,
+        Action::Unhold => None,
+        Action::Compute(_) | Action::Branch(..) | Action::Hold => match listing(state, value) {
             Some(listed) => register_of(listed),
             None => None,
         },
-        Action::Hold | Action::Unhold => None,
         _ => argument_register(index),
     };
     let place = match found {

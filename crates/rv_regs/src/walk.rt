@@ -15,7 +15,7 @@ ghost use Rattle.rv_regs.specs.Walks.{HasComeTo};
 
 use crate::liveness::{LabelPoint, Point, alive_before, alive_behind, held_before, with_point};
 use crate::slots::{
-    Loaded, copied_in, left_behind, loaded_for, loaded_from, operands, register_of_result,
+    Loaded, copied_in, left_behind, loaded_for, loaded_from, operands_for, register_of_result,
     stored_later, those_alive,
 };
 use kk_base::NoMemory;
@@ -108,7 +108,7 @@ fn put_row(
     let pending = left_behind(alloc, action, statement.into, &behind.alive)?;
     put_stores(alloc, items, behind, &pending)?;
     let alive = copied_in(alloc, &loaded, before)?;
-    let args = operands(alloc, &loaded, &statement.args)?;
+    let args = operands_for(alloc, action, &loaded, &statement.args)?;
     let into = result_operand(statement);
     let line = Item::Does {
         alive,
