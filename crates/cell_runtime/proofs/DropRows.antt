@@ -3,6 +3,7 @@ use Rattle.std.proofs.Common.{◌≡◌, ◌≢◌, ℕ, suc, ◌+◌, ◌-◌, 
 use Rattle.std.proofs.lemmas.Nat.{and_mask}
 use Rattle.rv_isa.specs.declared.immediate.Immediate.{Immediate}
 use Rattle.rv_isa.specs.declared.immediate.BranchOffset.{BranchOffset}
+use Rattle.cell_runtime.specs.Links.{distance}
 use Rattle.rv_isa.specs.declared.immediate.ShiftAmount.{ShiftAmount}
 use Rattle.rv_isa.specs.declared.instr.Instr.{Instr}
 use Rattle.rv_isa.specs.declared.instr.Instr.TheVariants.{Jalr, Beq, Bne, Lw, Sw, Addi, Andi, Srli}
@@ -28,25 +29,25 @@ abbrev pub by_8 : ShiftAmount
 by_8 = record { places = 8; in_range = lit< tt }
 
 abbrev pub forward_20 : BranchOffset
-forward_20 = record { word = 20; in_range = (lit< tt, lit< tt, refl) }
+forward_20 = distance 0 5
 
 abbrev pub forward_36 : BranchOffset
-forward_36 = record { word = 36; in_range = (lit< tt, lit< tt, refl) }
+forward_36 = distance 0 9
 
 abbrev pub forward_40 : BranchOffset
-forward_40 = record { word = 40; in_range = (lit< tt, lit< tt, refl) }
+forward_40 = distance 0 10
 
 abbrev pub back_24 : BranchOffset
-back_24 = record { word = 2 ^ 32 - 24; in_range = (lit< tt, lit< tt, refl) }
+back_24 = distance 6 0
 
 abbrev pub back_36 : BranchOffset
-back_36 = record { word = 2 ^ 32 - 36; in_range = (lit< tt, lit< tt, refl) }
+back_36 = distance 9 0
 
 abbrev pub back_44 : BranchOffset
-back_44 = record { word = 2 ^ 32 - 44; in_range = (lit< tt, lit< tt, refl) }
+back_44 = distance 11 0
 
 abbrev pub back_76 : BranchOffset
-back_76 = record { word = 2 ^ 32 - 76; in_range = (lit< tt, lit< tt, refl) }
+back_76 = distance 19 0
 
 abbrev pub drop_code : List Instr
 drop_code =

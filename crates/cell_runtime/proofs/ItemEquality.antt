@@ -5,17 +5,20 @@ use Rattle.rv_isa.specs.declared.immediate.Immediate.{Immediate}
 use Rattle.rv_isa.specs.declared.immediate.BranchOffset.{BranchOffset}
 use Rattle.rv_isa.specs.declared.immediate.JumpOffset.{JumpOffset}
 use Rattle.rv_isa.specs.declared.instr.Instr.{Instr}
-use Rattle.rv_isa.specs.declared.instr.Instr.TheVariants.{Jal, Jalr, Beq, Bne, Bge, Lw, Lbu, Sb, Sw, Addi, Add, Sub, Divu, Remu}
+use Rattle.rv_isa.specs.declared.instr.Instr.TheVariants.{Jal, Jalr, Beq, Bne, Lw, Lbu, Sb, Sw, Addi, Add, Sub, Divu, Remu}
 use Rattle.rv_isa.proofs.RangeEquality.{same_register, same_immediate, same_branch_offset, same_jump_offset}
 use Rattle.rv_isa.specs.Standing.{Code}
 use Rattle.rv_isa.specs.declared.placed.Native.{Native}
-use Rattle.rv_isa.specs.declared.placed.Native.TheVariants.{Instruction, Address}
+use Rattle.rv_isa.specs.declared.placed.Native.TheVariants.{Instruction, Address, Label, Branch}
+use Rattle.rv_isa.specs.declared.asm.Condition.{Condition}
+use Rattle.rv_isa.specs.declared.placed.Symbol.{Symbol}
 use Rattle.rv_isa.specs.declared.placed.Section.TheVariants.{Data}
 use Rattle.cell_runtime.specs.Lines.{Makes, IsSet, IsWayBack}
+use Rattle.cell_runtime.specs.Links.{linked}
 
--- what the same items make
-pub made : {K : ℕ → Code → ℕ → Type 0} {words reach : ℕ} {items others : List Native} → items ≡ others → Makes others words reach K → Makes items words reach K
-made {K} {words} {reach} e makes = subst (λ items. Makes items words reach K) (sym e) makes
+-- what the same lines make once they are linked
+pub made : {K : ℕ → Code → ℕ → Type 0} {words reach : ℕ} {items : List Native} (others : List Native) → items ≡ others → Makes (linked others) words reach K → Makes (linked items) words reach K
+made {K} {words} {reach} others e makes = subst (λ items. Makes (linked items) words reach K) (sym e) makes
 
 -- a list, one item after the other
 pub then_line : {i j : Instr} {is js : List Native} → i ≡ j → is ≡ js → Instruction i ∷ is ≡ Instruction j ∷ js
@@ -68,9 +71,6 @@ same_beq = same_branch_format Beq _ _ _ _ _ _
 pub same_bne : {a a' b b' : Register} {o o' : BranchOffset} → a.number ≡ a'.number → b.number ≡ b'.number → o.word ≡ o'.word → Bne a b o ≡ Bne a' b' o'
 same_bne = same_branch_format Bne _ _ _ _ _ _
 
-pub same_bge : {a a' b b' : Register} {o o' : BranchOffset} → a.number ≡ a'.number → b.number ≡ b'.number → o.word ≡ o'.word → Bge a b o ≡ Bge a' b' o'
-same_bge = same_branch_format Bge _ _ _ _ _ _
-
 pub same_add : {a a' b b' c c' : Register} → a.number ≡ a'.number → b.number ≡ b'.number → c.number ≡ c'.number → Add a b c ≡ Add a' b' c'
 same_add = same_register_format Add _ _ _ _ _ _
 
@@ -94,6 +94,15 @@ pub then_set : {a : Native} {rd rd' zero : Register} {imm : Immediate} {n : ℕ}
 then_set {is = is} given e zero same rest =
     ap (λ item. item ∷ is) given.line_is
     ∙ then_line (same_immediate_format Addi _ _ _ _ _ _ e (given.zero_is ∙ sym zero) (given.immediate_is ∙ sym same)) rest
+
+pub then_branch : {a : Native} {condition : Condition} {left left' right right' : Register} {target : Symbol} {is js : List Native} → a ≡ Branch condition left right target → left.number ≡ left'.number → right.number ≡ right'.number → is ≡ js
+    → a ∷ is ≡ Branch condition left' right' target ∷ js
+then_branch {condition = condition} {left = left} {left' = left'} {right = right} {right' = right'} {target = target} {is = is} given e f rest =
+    ap (λ item. item ∷ is) given ∙ ap (λ r. Branch condition r right target ∷ is) (same_register left left' e)
+    ∙ ap (λ r. Branch condition left' r target ∷ is) (same_register right right' f) ∙ ap (λ is. Branch condition left' right' target ∷ is) rest
+
+pub then_label : {a : Native} {symbol : Symbol} {is js : List Native} → a ≡ Label symbol → is ≡ js → a ∷ is ≡ Label symbol ∷ js
+then_label {symbol = symbol} {is = is} given rest = ap (λ item. item ∷ is) given ∙ ap (λ is. Label symbol ∷ is) rest
 
 pub then_back : {a : Native} {zero way : Register} {imm : Immediate} {is js : List Native} → IsWayBack a → zero.number ≡ 0 → way.number ≡ 1 → imm.word ≡ 0 → is ≡ js → a ∷ is ≡ Instruction (Jalr zero way imm) ∷ js
 then_back {is = is} given zero way same rest =

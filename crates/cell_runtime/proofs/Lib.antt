@@ -15,6 +15,7 @@ pub mod TakeRuns
 pub mod TokenHolds
 pub mod StartRuns
 pub mod DropRows
+mod RoutineLines
 pub mod DropStates
 pub mod DropMoves
 pub mod DropRuns

@@ -1,9 +1,10 @@
 -- The immediates and distances of the routines.
-use Rattle.std.proofs.Common.{◌-◌, ◌^◌, lit<, refl}
+use Rattle.std.proofs.Common.{◌-◌, ◌^◌, lit<}
 use Rattle.kk_base.specs.Exits.{heap_full_exit}
 use Rattle.rv_isa.specs.Numbers.{cell_size}
 use Rattle.rv_isa.specs.declared.immediate.Immediate.{Immediate}
 use Rattle.rv_isa.specs.declared.immediate.BranchOffset.{BranchOffset}
+use Rattle.cell_runtime.specs.Links.{distance}
 
 abbrev pub imm_0 : Immediate
 imm_0 = record { word = 0; in_range = (lit< tt, lit< tt) }
@@ -39,16 +40,16 @@ abbrev pub imm_minus_1 : Immediate
 imm_minus_1 = record { word = 2 ^ 32 - 1; in_range = (lit< tt, lit< tt) }
 
 abbrev pub forward_8 : BranchOffset
-forward_8 = record { word = 8; in_range = (lit< tt, lit< tt, refl) }
+forward_8 = distance 0 2
 
 abbrev pub forward_16 : BranchOffset
-forward_16 = record { word = 16; in_range = (lit< tt, lit< tt, refl) }
+forward_16 = distance 0 4
 
 abbrev pub back_20 : BranchOffset
-back_20 = record { word = 2 ^ 32 - 20; in_range = (lit< tt, lit< tt, refl) }
+back_20 = distance 5 0
 
 abbrev pub imm_heap_full : Immediate
 imm_heap_full = record { word = heap_full_exit; in_range = (lit< tt, lit< tt) }
 
 abbrev pub forward_24 : BranchOffset
-forward_24 = record { word = 24; in_range = (lit< tt, lit< tt, refl) }
+forward_24 = distance 0 6

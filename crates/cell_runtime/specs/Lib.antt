@@ -1,6 +1,7 @@
 pub mod Registers
 pub mod Calls
 pub mod Lines
+pub mod Links
 pub mod Prints
 pub mod Stops
 pub mod Takes

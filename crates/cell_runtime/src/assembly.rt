@@ -1,9 +1,9 @@
 //! Lines of the text by the names of their instructions.
 
-ghost use Rattle.std.specs.Prelude.{◌≡◌, ◌-◌, ◌*◌, ◌+◌, ◌^◌, ◌<◌};
+ghost use Rattle.std.specs.Prelude.{◌≡◌, ◌-◌, ◌^◌, ◌<◌};
 ghost use Rattle.cell_runtime.specs.Lines.{IsSet, IsWayBack};
 
-use rv_isa::{BranchOffset, Immediate, Instr, JumpOffset, Native, Register, Section};
+use rv_isa::{Condition, Immediate, Instr, JumpOffset, Native, Register, Section, Symbol};
 
 /// A number from 0 to 2047 as an immediate.
 pub fn small(number: u32) -> Immediate
@@ -18,23 +18,6 @@ pub fn minus_one() -> Immediate
     ensures { result.word ≡ 2 ^ 32 - 1 }
 {
     Immediate::new(0xffff_ffff)
-}
-
-/// A branch forward over so many instructions, its own included.
-pub fn forward(instructions: u32) -> BranchOffset
-    requires { instructions < 1024 }
-    ensures { result.word ≡ 4 * instructions }
-{
-    BranchOffset::new(4 * instructions)
-}
-
-/// A branch back by so many instructions.
-pub fn back(instructions: u32) -> BranchOffset
-    requires above { 0 < instructions }
-    requires below { instructions < 1024 }
-    ensures { result.word + 4 * instructions ≡ 2 ^ 32 }
-{
-    BranchOffset::new(0u32.wrapping_sub(4 * instructions))
 }
 
 pub fn address(rd: Register, offset: u32) -> Native
@@ -109,22 +92,41 @@ pub fn sw(rs2: Register, imm: Immediate, rs1: Register) -> Native
     Native::Instruction(Instr::Sw { rs1, rs2, imm })
 }
 
-pub fn beq(rs1: Register, rs2: Register, offset: BranchOffset) -> Native
-    ensures { result ≡ Native.Instruction (Instr.Beq rs1 rs2 offset) }
+/// A label of a routine's own.
+pub fn label(number: u32) -> Native
+    ensures { result ≡ Native.Label (Symbol.Local number) }
 {
-    Native::Instruction(Instr::Beq { rs1, rs2, offset })
+    Native::Label(Symbol::Local(number))
 }
 
-pub fn bne(rs1: Register, rs2: Register, offset: BranchOffset) -> Native
-    ensures { result ≡ Native.Instruction (Instr.Bne rs1 rs2 offset) }
+/// A branch to a label of the routine's own.
+fn branch(condition: Condition, left: Register, right: Register, label: u32) -> Native
+    ensures { result ≡ Native.Branch condition left right (Symbol.Local label) }
 {
-    Native::Instruction(Instr::Bne { rs1, rs2, offset })
+    Native::Branch {
+        condition,
+        left,
+        right,
+        target: Symbol::Local(label),
+    }
 }
 
-pub fn bge(rs1: Register, rs2: Register, offset: BranchOffset) -> Native
-    ensures { result ≡ Native.Instruction (Instr.Bge rs1 rs2 offset) }
+pub fn beq(rs1: Register, rs2: Register, label: u32) -> Native
+    ensures { result ≡ Native.Branch Condition.Equal rs1 rs2 (Symbol.Local label) }
 {
-    Native::Instruction(Instr::Bge { rs1, rs2, offset })
+    branch(Condition::Equal, rs1, rs2, label)
+}
+
+pub fn bne(rs1: Register, rs2: Register, label: u32) -> Native
+    ensures { result ≡ Native.Branch Condition.NotEqual rs1 rs2 (Symbol.Local label) }
+{
+    branch(Condition::NotEqual, rs1, rs2, label)
+}
+
+pub fn bge(rs1: Register, rs2: Register, label: u32) -> Native
+    ensures { result ≡ Native.Branch Condition.GreaterEqual rs1 rs2 (Symbol.Local label) }
+{
+    branch(Condition::GreaterEqual, rs1, rs2, label)
 }
 
 /// A call of the environment.

@@ -1,38 +1,51 @@
 //! How a cell is taken, and how the reference to one is given up.
 
 ghost use Rattle.cell_runtime.specs.Lines.{Makes};
+ghost use Rattle.cell_runtime.specs.Links.{linked};
 ghost use Rattle.cell_runtime.specs.Takes.{IsTakeOfPools};
 ghost use Rattle.std.specs.Prelude.{◌≡◌};
 ghost use Rattle.cell_runtime.specs.Drops.{IsDrop};
 
 use crate::Ending;
-use crate::assembly::{addi, back, beq, bne, ecall, forward, lw, minus_one, ret, set, small, sw};
+use crate::assembly::{addi, beq, bne, ecall, label, lw, minus_one, ret, set, small, sw};
 use rv_isa::environment::{CELL_SIZE, EXIT};
 use rv_isa::{Immediate, Instr, Native, Register, ShiftAmount};
 
+/// In `take`: where the chain is empty.
+const FRESH: u32 = 0;
+
+/// In `take`: where all cells were used.
+const HELD: u32 = 1;
+
+/// In `take`: where there is no cell.
+const FULL: u32 = 2;
+
 /// Gives a cell in `a0`: the first one of the chain in `s0`, else the first one that was never used, else the newest held
 /// token, whose slot loses it. Where there is none it exits.
-pub fn take() -> [Native; 17]
-    ensures { Makes result 17 0 (λ memory. IsTakeOfPools) }
+pub fn take() -> [Native; 20]
+    ensures { Makes (linked result) 17 0 (λ memory. IsTakeOfPools) }
 {
     [
-        beq(Register::S0, Register::ZERO, forward(4)),
+        beq(Register::S0, Register::ZERO, FRESH),
         addi(Register::A0, Register::S0, small(0)),
         lw(Register::S0, Register::S0, small(0)),
         ret(),
         // The chain is empty: the border rises by a cell.
-        beq(Register::S2, Register::S3, forward(4)),
+        label(FRESH),
+        beq(Register::S2, Register::S3, HELD),
         addi(Register::A0, Register::S2, small(0)),
         addi(Register::S2, Register::S2, small(CELL_SIZE)),
         ret(),
         // All cells were used.
-        beq(Register::S1, Register::ZERO, forward(6)),
+        label(HELD),
+        beq(Register::S1, Register::ZERO, FULL),
         addi(Register::A0, Register::S1, small(0)),
         lw(Register::T0, Register::S1, small(4)),
         lw(Register::S1, Register::S1, small(0)),
         sw(Register::ZERO, small(0), Register::T0),
         ret(),
         // There is no cell.
+        label(FULL),
         set(Register::A0, Ending::HeapFull.number()),
         set(Register::A7, EXIT),
         ecall(),
@@ -51,39 +64,55 @@ fn srli(rd: Register, rs1: Register, shamt: ShiftAmount) -> Native
     Native::Instruction(Instr::Srli { rd, rs1, shamt })
 }
 
+/// In `give_up`: a reference is given up. An odd one names no cell; else its count is lowered, and the cell waits where it was the last.
+const GIVE: u32 = 0;
+
+/// In `give_up`: the fields of the opened cell whose bit is set are given up.
+const NEXT: u32 = 1;
+
+/// In `give_up`: the cell waits.
+const LAST: u32 = 2;
+
+/// In `give_up`: the next waiting cell is opened, or all is done.
+const POP: u32 = 3;
+
+/// In `give_up`: it is freed and opened.
+const OPEN: u32 = 4;
+
 /// Gives up the reference in `a0`, and all that it was the last to hold.
 ///
 /// A cell whose count reaches zero waits, in a chain through its own first word, until its references are given up; it
 /// stands on the chain of free cells before that. So no stack is used. `a1` and `a2` are the address of the next field
 /// of an opened cell and the mask of the fields from there on, `a3` is the chain of waiting cells.
-pub fn give_up() -> [Native; 28]
-    ensures { Makes result 28 0 (λ memory. IsDrop) }
+pub fn give_up() -> [Native; 33]
+    ensures { Makes (linked result) 28 0 (λ memory. IsDrop) }
 {
     [
         set(Register::A3, 0),
         set(Register::A2, 0),
-        // give: an odd reference names no cell; else its count is lowered, and the cell waits where it was the last.
+        label(GIVE),
         andi(Register::T0, Register::A0, small(1)),
-        bne(Register::T0, Register::ZERO, forward(5)),
+        bne(Register::T0, Register::ZERO, NEXT),
         lw(Register::T0, Register::A0, small(0)),
         addi(Register::T0, Register::T0, minus_one()),
-        beq(Register::T0, Register::ZERO, forward(9)),
+        beq(Register::T0, Register::ZERO, LAST),
         sw(Register::T0, small(0), Register::A0),
-        // next: the fields of the opened cell whose bit is set are given up.
-        beq(Register::A2, Register::ZERO, forward(10)),
+        label(NEXT),
+        beq(Register::A2, Register::ZERO, POP),
         andi(Register::T0, Register::A2, small(1)),
         lw(Register::A0, Register::A1, small(0)),
         addi(Register::A1, Register::A1, small(4)),
         srli(Register::A2, Register::A2, ShiftAmount::new(1)),
-        bne(Register::T0, Register::ZERO, back(11)),
-        beq(Register::ZERO, Register::ZERO, back(6)),
-        // last: the cell waits.
+        bne(Register::T0, Register::ZERO, GIVE),
+        beq(Register::ZERO, Register::ZERO, NEXT),
+        label(LAST),
         sw(Register::A3, small(0), Register::A0),
         addi(Register::A3, Register::A0, small(0)),
-        beq(Register::ZERO, Register::ZERO, back(9)),
-        // pop: the next waiting cell is freed and opened, or all is done.
-        bne(Register::A3, Register::ZERO, forward(2)),
+        beq(Register::ZERO, Register::ZERO, NEXT),
+        label(POP),
+        bne(Register::A3, Register::ZERO, OPEN),
         ret(),
+        label(OPEN),
         lw(Register::T0, Register::A3, small(0)),
         sw(Register::S0, small(0), Register::A3),
         addi(Register::S0, Register::A3, small(0)),
@@ -91,6 +120,6 @@ pub fn give_up() -> [Native; 28]
         srli(Register::A2, Register::A2, ShiftAmount::new(8)),
         addi(Register::A1, Register::A3, small(8)),
         addi(Register::A3, Register::T0, small(0)),
-        beq(Register::ZERO, Register::ZERO, back(19)),
+        beq(Register::ZERO, Register::ZERO, NEXT),
     ]
 }

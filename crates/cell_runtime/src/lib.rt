@@ -9,6 +9,7 @@
 mod assembly;
 mod cells;
 mod layout;
+mod links;
 mod process;
 mod runtime;
 mod streams;

@@ -2,6 +2,7 @@
 
 ghost use Rattle.std.specs.Prelude.{◌+◌, ◌≡◌, ◌<◌};
 ghost use Rattle.cell_runtime.specs.Lines.{Makes};
+ghost use Rattle.cell_runtime.specs.Links.{linked};
 ghost use Rattle.cell_runtime.specs.Starts.{IsStartOf};
 ghost use Rattle.cell_runtime.specs.Stops.{number_of, IsStop};
 
@@ -17,7 +18,7 @@ pub const TEXT_WORDS: u32 = 101;
 /// Sets the stack, the bounds of the cells, an empty chain of free cells, an empty chain of held tokens and 1 in `gp`, and calls
 /// `main`, which stands behind the runtime. So `main` returns to the stop behind the start.
 pub fn start(layout: Layout) -> [Native; 7]
-    ensures { Makes result 10 (layout.cells + layout.cells_end + layout.stack_end) (IsStartOf layout) }
+    ensures { Makes (linked result) 10 (layout.cells + layout.cells_end + layout.stack_end) (IsStartOf layout) }
 {
     [
         address(Register::SP, layout.stack_end),
@@ -57,7 +58,7 @@ impl Ending {
 
 /// Exits.
 pub fn stop(ending: Ending) -> [Native; 3]
-    ensures { Makes result 3 0 (λ memory. IsStop ending) }
+    ensures { Makes (linked result) 3 0 (λ memory. IsStop ending) }
 {
     [
         set(Register::A0, ending.number()),

@@ -1,12 +1,14 @@
 //! All routines together.
 
-ghost use Rattle.std.specs.Prelude.{◌≡◌, ◌*◌, ◌%◌, ◌+◌, ◌<◌, ◌≤◌, [], ◌∷◌, ◌++◌, IfOk, OnOk};
+ghost use Rattle.std.specs.Prelude.{◌≡◌, ◌*◌, ◌%◌, ◌+◌, ◌<◌, ◌≤◌, [], ◌∷◌, ◌++◌, IfOk, OnOk, length};
 ghost use Rattle.kk_base.specs.Sizes.{greatest_cells, greatest_depth};
 ghost use Rattle.rv_isa.specs.Sizes.{reach_down};
+ghost use Rattle.cell_runtime.specs.Links.{linked, most_lines};
 ghost use Rattle.cell_runtime.specs.Texts.{IsText};
 
 use crate::cells::{give_up, take};
 use crate::layout::Layout;
+use crate::links::link;
 use crate::process::{Ending, start, stop};
 use crate::streams::{print_int, print_text, read_byte};
 use kk_base::NoMemory;
@@ -48,15 +50,13 @@ pub fn text(alloc: Global, cells: u32, depth: u32, frame_bytes: u32) -> Result<P
     })
 }
 
-/// Adds lines at the end, under a label.
+/// Adds the lines of a routine at the end, under a label.
 fn add(lines: &mut Vec<Native>, symbol: Symbol, more: &[Native]) -> Result<(), NoMemory>
-    ensures { OnOk result (lines.new.items ≡ (lines.old.items ++ Native.Label symbol ∷ []) ++ more.now) }
+    requires { length more.now ≤ most_lines }
+    ensures { OnOk result (lines.new.items ≡ (lines.old.items ++ Native.Label symbol ∷ []) ++ linked more.now) }
 {
     match lines.push(Native::Label(symbol)) {
-        Ok(()) => match lines.extend_from_slice(more) {
-            Ok(()) => Ok(()),
-            Err(_) => Err(NoMemory),
-        },
+        Ok(()) => link(lines, more),
         Err(_) => Err(NoMemory),
     }
 }

@@ -1,11 +1,11 @@
 use Rattle.std.proofs.Common.{refl}
 use Rattle.cell_runtime.proofs.ItemEquality.{made, then_set, then_plain, then_address_of, same_jal}
-use Rattle.cell_runtime.proofs.StartRuns.{start_makes}
+use Rattle.cell_runtime.proofs.StartRuns.{start_items, start_makes}
 use Rattle.cell_runtime.proofs.process.start.Goals as goal
 
 pub returns : goal.returns
 returns c =
-    made
+    made (start_items c.args.layout)
     (then_address_of c.address.ensures refl refl
     (then_address_of c.address-2.ensures refl refl
     (then_address_of c.address-3.ensures refl refl
