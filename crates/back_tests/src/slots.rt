@@ -54,8 +54,8 @@ fn values_stay_in_registers(rt: HostRuntime) -> Result<(), Fail> {
     let asm = sum_of_two(rt.alloc())?;
     let placed = assign(rt.alloc(), &asm)?;
     assert!(rt; valid(&asm, &placed));
-    assert_eq!(rt; placed.functions.len(), 1);
-    let code = &placed.functions[0].code;
+    assert_eq!(rt; placed.functions().len(), 1);
+    let code = &placed.functions()[0].code;
     assert_eq!(rt; code.len(), 3);
     for item in code {
         assert!(rt; !is_move(item));

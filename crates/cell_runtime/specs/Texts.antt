@@ -8,6 +8,7 @@ use Rattle.rv_isa.specs.declared.placed.Symbol.TheVariants.{Start, Routine, Stop
 use Rattle.rv_isa.specs.declared.placed.Placed.{Placed}
 use Rattle.rv_isa.specs.Sizes.{reach_down}
 use Rattle.rv_isa.specs.Standing.{Code, Has}
+use Rattle.rv_isa.specs.PlacedCode.{placed_natives, placed_memory, placed_functions, placed_constants}
 use Rattle.cell_heap.specs.Pool.{Pool}
 use Rattle.cell_runtime.specs.declared.layout.Layout.{Layout}
 use Rattle.cell_runtime.specs.declared.process.Ending.TheVariants as ending
@@ -48,11 +49,11 @@ greatest_reach = 2 * (greatest_depth * (2 * reach_down))
 
 -- the runtime alone, for so many cells and so many frames of so many bytes
 pub record IsText (cells depth frame_bytes : ℕ) (text : Placed) : Type 0 where
-  pub memory : text.memory ≡ record { size = (layout_of cells depth frame_bytes).stack_end; stack_bottom = (layout_of cells depth frame_bytes).stack }
-  pub functions : text.functions.items ≡ []
-  pub constants : text.constants.items ≡ []
-  pub words : words_of text.natives.items ≡ runtime_words
-  pub labels : labels_of 0 text.natives.items ≡ runtime_labels
-  pub within : AreWithin greatest_reach text.natives.items
-  pub routines : (memory : ℕ) (is : List Instr) (code : Code) (at : ℕ) → Spells memory text.natives.items is → Has code at is
+  pub memory : placed_memory text ≡ record { size = (layout_of cells depth frame_bytes).stack_end; stack_bottom = (layout_of cells depth frame_bytes).stack }
+  pub functions : placed_functions text ≡ []
+  pub constants : placed_constants text ≡ []
+  pub words : words_of (placed_natives text) ≡ runtime_words
+  pub labels : labels_of 0 (placed_natives text) ≡ runtime_labels
+  pub within : AreWithin greatest_reach (placed_natives text)
+  pub routines : (memory : ℕ) (is : List Instr) (code : Code) (at : ℕ) → Spells memory (placed_natives text) is → Has code at is
       → IsRuntime cells (layout_of cells depth frame_bytes) memory code at

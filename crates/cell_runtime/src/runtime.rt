@@ -39,10 +39,8 @@ pub fn text(alloc: Global, cells: u32, depth: u32, frame_bytes: u32) -> Result<P
         &print_text(),
     )?;
     add(&mut lines, Symbol::Routine(Routine::ReadByte), &read_byte())?;
-    Ok(Placed {
-        natives: lines,
-        functions: Vec::new(alloc),
-        constants: Vec::new(alloc),
+    Ok(Placed::Runtime {
+        lines,
         memory: DataSection {
             size: layout.stack_end,
             stack_bottom: layout.stack,

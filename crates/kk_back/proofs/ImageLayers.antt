@@ -14,7 +14,7 @@ use Rattle.rv_isa.specs.declared.placed.DataSection.{DataSection}
 use Rattle.rv_isa.specs.declared.placed.Placed.{Placed}
 use Rattle.rv_isa.specs.AsmCode.{Lines, asm_functions, asm_constants}
 use Rattle.rv_isa.specs.AsmMachine.{AsmState, AsmTurn, asm_machine, asm_start}
-use Rattle.rv_isa.specs.PlacedCode.{PlacedLines, placed_functions, placed_constants}
+use Rattle.rv_isa.specs.PlacedCode.{PlacedLines, placed_functions, placed_constants, placed_memory}
 use Rattle.rv_isa.specs.PlacedMachine.{PlacedState, PlacedTurn, placed_machine, placed_start}
 use Rattle.rv_isa.specs.FreeTouches.{TouchesNoFreeCell}
 use Rattle.rv_isa.specs.LinePlaces.{AsmIsAt, PlacedIsAt, AsmHasLine, PlacedHasLine, AsmHasOwnLine, PlacedHasOwnLine, is_always_some}
@@ -85,11 +85,11 @@ use Rattle.kk_back.proofs.PlainCode.{placed_is_plain}
 pub record IsLooped (placed looped : Placed) : Type 0 where
   pub rotated : AreRotated 0 (placed_functions placed) (placed_functions looped)
   pub short : placed_functions_length (placed_functions looped) ≤ placed_functions_length (placed_functions placed)
-  pub constants : looped.constants ≡ placed.constants
+  pub constants : placed_constants looped ≡ placed_constants placed
 
 pub looped_by : {placed looped : Placed} → AreRotated 0 (placed_functions placed) (placed_functions looped)
     → placed_functions_length (placed_functions looped) ≤ placed_functions_length (placed_functions placed)
-    → looped.constants ≡ placed.constants → IsLooped placed looped
+    → placed_constants looped ≡ placed_constants placed → IsLooped placed looped
 looped_by rotated short constants = record { rotated = rotated; short = short; constants = constants }
 
 -- the constants are those of the assembler code
@@ -130,7 +130,7 @@ placeable cells depth asm placed looped runtime made valid plain loops runtime_i
     let bytes : length (all_bytes (placed_constants looped)) ≡ length (all_bytes (asm_constants asm))
     = ap (λ (texts : List (List ℕ)). length (all_bytes texts)) (constants_kept asm placed looped valid loops) in
     let most : length (all_bytes (asm_constants asm)) ≤ most_constant_bytes = made.fits.bytes in
-    let bottom_is : runtime.memory.stack_bottom ≡ bytes_before_cells + cell_size * cells + below_pointer (frame_size looped_are)
+    let bottom_is : (placed_memory runtime).stack_bottom ≡ bytes_before_cells + cell_size * cells + below_pointer (frame_size looped_are)
     = ap (λ (memory : DataSection). memory.stack_bottom) runtime_is.memory in
     record {
       lines = runtime_is.within;
@@ -153,7 +153,7 @@ PlacedTextAgrees =
     (cells depth : ℕ) (runtime program : Placed) (words : Words) (text input : List ℕ) (main : PlacedLines)
     → IsPlacedImage cells depth runtime program words text main → All (λ byte. byte < 256) input
     → NeverStuck (map_of runtime program) (pool_in cells runtime program) (placed_functions program) depth (placed_start main (first_world (pool_in cells runtime program) input))
-    → (up : ℕ → ℕ) × Agree (placed_machine (primitives (constants_of runtime program) (pool_in cells runtime program)) depth (placed_functions program)) (processor_machine rv32im) outside_lines up (placed_start main (first_world (pool_in cells runtime program) input)) (goes (first_processor text runtime.memory.size input))
+    → (up : ℕ → ℕ) × Agree (placed_machine (primitives (constants_of runtime program) (pool_in cells runtime program)) depth (placed_functions program)) (processor_machine rv32im) outside_lines up (placed_start main (first_world (pool_in cells runtime program) input)) (goes (first_processor text (placed_memory runtime).size input))
 
 -- and of how it ends
 abbrev pub PlacedTextEnds : Type 0
@@ -163,7 +163,7 @@ PlacedTextEnds =
     → NeverStuck (map_of runtime program) (pool_in cells runtime program) (placed_functions program) depth (placed_start main (first_world (pool_in cells runtime program) input))
     → (steps : ℕ) (how : Ending) (world : World)
     → state (placed_machine (primitives (constants_of runtime program) (pool_in cells runtime program)) depth (placed_functions program)) steps (placed_start main (first_world (pool_in cells runtime program) input)) ≡ ended how world
-    → (count : ℕ) × EndsWithCells (pool_in cells runtime program) how world (run count (first_processor text runtime.memory.size input))
+    → (count : ℕ) × EndsWithCells (pool_in cells runtime program) how world (run count (first_processor text (placed_memory runtime).size input))
 
 -- and of how many bytes it has
 abbrev pub PlacedTextIsSmall : Type 0
@@ -177,7 +177,7 @@ PlacedTextTouchesNone =
     (cells depth : ℕ) (runtime program : Placed) (words : Words) (text input : List ℕ) (main : PlacedLines)
     → IsPlacedImage cells depth runtime program words text main → All (λ byte. byte < 256) input
     → NeverStuck (map_of runtime program) (pool_in cells runtime program) (placed_functions program) depth (placed_start main (first_world (pool_in cells runtime program) input))
-    → (count : ℕ) → TouchesNoFreeCell text_start runtime_words cells (run count (first_processor text runtime.memory.size input))
+    → (count : ℕ) → TouchesNoFreeCell text_start runtime_words cells (run count (first_processor text (placed_memory runtime).size input))
 
 -- the machine of a program behind a runtime, and its start on an input
 abbrev machine_of : ℕ → ℕ → Placed → Placed → Machine (PlacedTurn World Ending) Event Ending
@@ -199,9 +199,9 @@ pub record PlacedTextComes : Type 0 where
       → (n f j : ℕ) (shared : World) → PlacedHasLine (placed_functions program) f j
       → PlacedIsAt (placed_functions program) f j shared
       (state (machine_of cells depth runtime program) n (start_of cells runtime program main input))
-      → (count : ℕ) × ((s : Processor) × ((run count (first_processor text runtime.memory.size input) ≡ goes s)
+      → (count : ℕ) × ((s : Processor) × ((run count (first_processor text (placed_memory runtime).size input) ≡ goes s)
       × ((s.pc ≡ address_of runtime program f j)
-      × ((trace (processor_machine rv32im) count (goes (first_processor text runtime.memory.size input))
+      × ((trace (processor_machine rv32im) count (goes (first_processor text (placed_memory runtime).size input))
       ≡ trace (machine_of cells depth runtime program) n (start_of cells runtime program main input))
       × HasCells (pool_in cells runtime program) shared.cells s))))
   pub follows : (cells depth : ℕ) (runtime program : Placed) (words : Words) (text input : List ℕ) (main : PlacedLines)
@@ -210,8 +210,8 @@ pub record PlacedTextComes : Type 0 where
       (start_of cells runtime program main input)
       → (n : ℕ) (t : PlacedState World)
       → state (machine_of cells depth runtime program) n (start_of cells runtime program main input) ≡ go t
-      → (count : ℕ) × ((s : Processor) × ((run count (first_processor text runtime.memory.size input) ≡ goes s)
-      × ((trace (processor_machine rv32im) count (goes (first_processor text runtime.memory.size input))
+      → (count : ℕ) × ((s : Processor) × ((run count (first_processor text (placed_memory runtime).size input) ≡ goes s)
+      × ((trace (processor_machine rv32im) count (goes (first_processor text (placed_memory runtime).size input))
       ≡ trace (machine_of cells depth runtime program) n (start_of cells runtime program main input))
       × HasHeldTokens (map_of runtime program) (pool_in cells runtime program) depth t s)))
   pub apart : (cells depth : ℕ) (runtime program : Placed) (words : Words) (text : List ℕ) (main : PlacedLines)
@@ -363,7 +363,7 @@ module _ {cells depth : ℕ} {asm : Asm} {placed looped runtime : Placed} {words
   stack_is = ap (λ bottom. bottom + depth * frame) (sym (image-ground some_image.1).cells_below)
 
   -- the cells and the frames fill the memory behind the text
-  pub fills : (parts : List Part) → parts ≡ program_parts text runtime.memory.size → FillMemory pool depth frame parts
+  pub fills : (parts : List Part) → parts ≡ program_parts text (placed_memory runtime).size → FillMemory pool depth frame parts
   fills parts parts_are =
       let size : length text ≡ text_bytes runtime looped = text_size makes.words_are makes.text_is in
       record {
@@ -397,13 +397,13 @@ module _ {cells depth : ℕ} {asm : Asm} {placed looped runtime : Placed} {words
 
   -- a word can be fetched at each, of memory that begins with the text
   pub lines_are_inside : PlacedTextComes → (f k : ℕ) → AsmHasOwnLine (asm_functions asm) f k
-      → (address f k % 4 ≡ 0) × (can_fetch (memory_of (program_parts text runtime.memory.size)) (address f k) 4 ≡ true)
+      → (address f k % 4 ≡ 0) × (can_fetch (memory_of (program_parts text (placed_memory runtime).size)) (address f k) 4 ≡ true)
   lines_are_inside text_comes f k has =
       let within = text_comes.inside cells depth runtime looped words text some_image.0 some_image.1 f (line f k) (is_there f k has) in
       let low : text_start + 4 * runtime_words ≤ address f k = lines_are_outside text_comes f k has in
       let high : address f k + 4 ≤ text_start + 4 * length words.instructions.items = within.1 in
       let size : length text ≡ 4 * length words.instructions.items + length words.constants.items = makes.text_is.size in
-      (within.0, fetched text runtime.memory.size (address f k) (omega (arith, low)) (omega (arith, high, size)))
+      (within.0, fetched text (placed_memory runtime).size (address f k) (omega (arith, low)) (omega (arith, high, size)))
 
   -- ---- runs
 
@@ -474,9 +474,9 @@ module _ {cells depth : ℕ} {asm : Asm} {placed looped runtime : Placed} {words
     -- the cells of the world
     pub comes : PlacedTextComes → (n f k : ℕ) (world : World) → AsmHasOwnLine (asm_functions asm) f k
         → AsmIsAt (asm_functions asm) f k world (state asm_runs n asm_begins)
-        → (count : ℕ) × ((s : Processor) × ((run count (first_processor text runtime.memory.size input) ≡ goes s)
+        → (count : ℕ) × ((s : Processor) × ((run count (first_processor text (placed_memory runtime).size input) ≡ goes s)
         × ((s.pc ≡ address f k)
-        × ((trace (processor_machine rv32im) count (goes (first_processor text runtime.memory.size input)) ≡ trace asm_runs n asm_begins)
+        × ((trace (processor_machine rv32im) count (goes (first_processor text (placed_memory runtime).size input)) ≡ trace asm_runs n asm_begins)
         × HasCells pool world.cells s))))
     comes text_comes n f k world has is =
         let high = comes_to_lines (primitives constants pool) depth (asm_functions asm) (placed_functions placed) main
@@ -499,8 +499,8 @@ module _ {cells depth : ℕ} {asm : Asm} {placed looped runtime : Placed} {words
     -- and for each state in which it goes on there is a number behind which the run goes on, and memory has the cells and the held
     -- tokens
     pub follows : PlacedTextComes → (n : ℕ) (high : AsmState World) → state asm_runs n asm_begins ≡ go high
-        → (count : ℕ) × ((s : Processor) × ((run count (first_processor text runtime.memory.size input) ≡ goes s)
-        × ((trace (processor_machine rv32im) count (goes (first_processor text runtime.memory.size input)) ≡ trace asm_runs n asm_begins)
+        → (count : ℕ) × ((s : Processor) × ((run count (first_processor text (placed_memory runtime).size input) ≡ goes s)
+        × ((trace (processor_machine rv32im) count (goes (first_processor text (placed_memory runtime).size input)) ≡ trace asm_runs n asm_begins)
         × HasHeldFrames pool frame (frames_end pool depth frame) high s)))
     follows text_comes n high is =
         let each = follows_each_state (primitives constants pool) depth (asm_functions asm) (placed_functions placed) main
@@ -544,18 +544,18 @@ module _ {cells depth : ℕ} {asm : Asm} {placed looped runtime : Placed} {words
 
     pub does : PlacedTextAgrees
         → (up : ℕ → ℕ) × Agree asm_runs (processor_machine rv32im) outside_lines up asm_begins
-        (goes (first_processor text runtime.memory.size input))
+        (goes (first_processor text (placed_memory runtime).size input))
     does text_agrees =
         let image = text_agrees cells depth runtime looped words text input looped_first.0 looped_image bytes
         (looped_never looped_first.0 looped_first.1) in
         let whole : PlacedTurn World Ending = begins looped_first.0 in
-        let low = subst (λ (c : Constants). Agree (placed_machine (primitives c pool) depth (placed_functions looped)) (processor_machine rv32im) outside_lines image.0 whole (goes (first_processor text runtime.memory.size input))) same_constants image.1 in
+        let low = subst (λ (c : Constants). Agree (placed_machine (primitives c pool) depth (placed_functions looped)) (processor_machine rv32im) outside_lines image.0 whole (goes (first_processor text (placed_memory runtime).size input))) same_constants image.1 in
         let middle = agree_through placed_runs looped_runs (processor_machine rv32im) 0 outside_lines (λ steps. steps * 2 + 1 + 1)
-        image.0 (begins placed_agrees.0) whole (goes (first_processor text runtime.memory.size input)) looped_first.2 low in (
+        image.0 (begins placed_agrees.0) whole (goes (first_processor text (placed_memory runtime).size input)) looped_first.2 low in (
           (λ m. (image.0 m * 2 + 1 + 1) * 1 + 0 + 1),
           agree_through asm_runs placed_runs (processor_machine rv32im) 0 outside_lines (λ steps. steps * 1 + 0 + 1)
               (λ m. image.0 m * 2 + 1 + 1) asm_begins (begins placed_agrees.0)
-              (goes (first_processor text runtime.memory.size input)) placed_agrees.2 middle,
+              (goes (first_processor text (placed_memory runtime).size input)) placed_agrees.2 middle,
         )
 
     -- where the assembler code has ended, so has the placed code
@@ -598,7 +598,7 @@ module _ {cells depth : ℕ} {asm : Asm} {placed looped runtime : Placed} {words
         by t (inr kept) = looped_ended_alike (placed_functions placed) (placed_functions looped) IsInTurn how world t kept.1
 
     pub ends : PlacedTextEnds → (n : ℕ) (how : Ending) (world : World) → state asm_runs n asm_begins ≡ ended how world
-        → (count : ℕ) × EndsWithCells pool how world (run count (first_processor text runtime.memory.size input))
+        → (count : ℕ) × EndsWithCells pool how world (run count (first_processor text (placed_memory runtime).size input))
     ends text_ends n how world is =
         let first = placed_ends n how world is in
         let there = looped_ends first.0 how world first.1 in
@@ -606,7 +606,7 @@ module _ {cells depth : ℕ} {asm : Asm} {placed looped runtime : Placed} {words
         text_ends cells depth runtime looped words text input looped_first.0 looped_image bytes
         (looped_never looped_first.0 looped_first.1) there.0 how world on_constants
 
-    pub touches : PlacedTextTouchesNone → (count : ℕ) → TouchesNoFreeCell text_start runtime_words cells (run count (first_processor text runtime.memory.size input))
+    pub touches : PlacedTextTouchesNone → (count : ℕ) → TouchesNoFreeCell text_start runtime_words cells (run count (first_processor text (placed_memory runtime).size input))
     touches text_touches =
         text_touches cells depth runtime looped words text input looped_first.0 looped_image bytes
         (looped_never looped_first.0 looped_first.1)
@@ -631,12 +631,12 @@ memory_aligned text = omega arith
 pub image_of : {cells depth : ℕ} {asm : Asm} {placed looped runtime : Placed} {words : Words} {text : List ℕ}
     (makes : Makes cells depth asm placed looped runtime words text) → PlacedTextAgrees → PlacedTextEnds → PlacedTextTouchesNone → PlacedTextComes
     → PlacedTextIsSmall → (entry : ℕ) (parts : List Part) → IsProgramImage entry parts → entry ≡ text_start
-    → parts ≡ program_parts text runtime.memory.size
+    → parts ≡ program_parts text (placed_memory runtime).size
     → IsAsmImage (asm_functions asm) (asm_constants asm) makes.made.main cells depth entry parts
 image_of {cells} {depth} {asm} {placed} {looped} {runtime} {words} {text} makes text_agrees text_ends text_touches text_comes
     is_small entry parts program entry_is parts_are =
-    let there : start (memory_of parts) entry ≡ start (memory_of (program_parts text runtime.memory.size)) text_start
-    = ap (λ (p : List Part). start (memory_of p) entry) parts_are ∙ ap (λ e. start (memory_of (program_parts text runtime.memory.size)) e) entry_is in
+    let there : start (memory_of parts) entry ≡ start (memory_of (program_parts text (placed_memory runtime).size)) text_start
+    = ap (λ (p : List Part). start (memory_of p) entry) parts_are ∙ ap (λ e. start (memory_of (program_parts text (placed_memory runtime).size)) e) entry_is in
     record {
       program = program;
       memory = record {
@@ -716,7 +716,7 @@ pub image_made : {cells depth frame : ℕ} {asm : Asm} {placed looped runtime : 
     → frame ≡ frame_size (placed_functions looped) → IsText cells depth frame runtime → ArePlacedWords runtime looped words
     → IsTextOf words text → PlacedTextAgrees → PlacedTextEnds → PlacedTextTouchesNone → PlacedTextComes
     → PlacedTextIsSmall → (entry : ℕ) (parts : List Part) → IsProgramImage entry parts → entry ≡ text_start
-    → parts ≡ program_parts text runtime.memory.size
+    → parts ≡ program_parts text (placed_memory runtime).size
     → IsAsmImage (asm_functions asm) (asm_constants asm) made.main cells depth entry parts
 unfolding makes_of
 image_made {asm = asm} sizes made valid plain loops frame_is runtime_is words_are text_is text_agrees text_ends text_touches

@@ -11,7 +11,7 @@ use Rattle.kk_counted.specs.TokenedCodes.{TokenedProgram}
 use Rattle.rv_cells.specs.TokenedFunctions.{most_values_of}
 use Rattle.rv_isa.specs.declared.placed.Placed.{Placed}
 use Rattle.rv_isa.specs.AsmCode.{Lines}
-use Rattle.rv_isa.specs.PlacedCode.{placed_functions}
+use Rattle.rv_isa.specs.PlacedCode.{placed_functions, placed_memory}
 use Rattle.rv_isa.specs.Sizes.{wide_frame}
 use Rattle.rv_isa.specs.ValueBounds.{HaveValuesBelow}
 use Rattle.rv_isa.specs.FrameSizes.{frame_size}
@@ -30,7 +30,7 @@ pub record IsPlacedIn (placed : Placed) (cells depth : ℕ) (parts : List Part) 
   pub words_are : ArePlacedWords runtime placed words
   pub text : List ℕ
   pub text_is : IsTextOf words text
-  pub parts_are : parts ≡ program_parts text runtime.memory.size
+  pub parts_are : parts ≡ program_parts text (placed_memory runtime).size
   pub small : frame_size (placed_functions placed) ≤ wide_frame
   pub size : memory_size_of parts ≡ (layout_of cells depth (frame_size (placed_functions placed))).stack_end
 

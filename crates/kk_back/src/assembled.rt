@@ -37,6 +37,6 @@ pub fn assembled(alloc: Global, asm: &Asm, cells: u32, depth: u32) -> Result<Ima
     placed_text_touches_no_free_cell();
     placed_text_comes_to_its_lines();
     placed_text_takes_few_bytes();
-    let image = Image::program(alloc, Bytes::from_vec(bytes), runtime.memory.size)?;
+    let image = Image::program(alloc, Bytes::from_vec(bytes), runtime.memory().size)?;
     Ok(image)
 }

@@ -1,7 +1,10 @@
 -- The placed form as mathematics, without pointers and capacities.
-use Rattle.std.specs.Prelude.{ℕ, List, Option, map}
+use Rattle.std.specs.Prelude.{ℕ, List, [], Option, map}
 use Rattle.rv_isa.specs.declared.asm.Action.{Action}
+use Rattle.rv_isa.specs.declared.placed.DataSection.{DataSection}
+use Rattle.rv_isa.specs.declared.placed.Native.{Native}
 use Rattle.rv_isa.specs.declared.placed.Placed.{Placed}
+use Rattle.rv_isa.specs.declared.placed.Placed.TheVariants.{Runtime, Program}
 use Rattle.rv_isa.specs.declared.placed.PlacedFunction.{PlacedFunction}
 use Rattle.rv_isa.specs.declared.placed.Place.{Place}
 use Rattle.rv_isa.specs.declared.placed.Place.TheVariants.{Register as register, Slot as slot}
@@ -29,13 +32,25 @@ placed_line_of (Moves alive value way) = moves alive.items value way
 abbrev pub placed_lines_of : PlacedFunction → PlacedLines
 placed_lines_of f = record { params = f.params.items; code = map placed_line_of f.code.items }
 
--- the functions of a text; a call names one by its index
-abbrev pub placed_functions : Placed → List PlacedLines
-placed_functions placed = map placed_lines_of placed.functions.items
+-- the lines of a text over named registers, as the runtime has them; a program has none
+abbrev pub placed_natives : Placed → List Native
+placed_natives (Runtime lines memory) = lines.items
+placed_natives (Program functions constants) = []
 
--- the constant bytes of a text
+-- the memory that a text may write; a program has none of its own
+abbrev pub placed_memory : Placed → DataSection
+placed_memory (Runtime lines memory) = memory
+placed_memory (Program functions constants) = record { size = 0; stack_bottom = 0 }
+
+-- the functions of a text; a call names one by its index; a runtime has none
+abbrev pub placed_functions : Placed → List PlacedLines
+placed_functions (Runtime lines memory) = []
+placed_functions (Program functions constants) = map placed_lines_of functions.items
+
+-- the constant bytes of a text; a runtime has none
 abbrev pub placed_constants : Placed → List (List ℕ)
-placed_constants placed = placed.constants.items
+placed_constants (Runtime lines memory) = []
+placed_constants (Program functions constants) = constants.items
 
 -- the two ends of a way
 abbrev pub from_of : Way → Place

@@ -76,5 +76,5 @@ pub fn frame_bytes(program: &Placed) -> u32
     requires { slots_of_functions (placed_functions program.now) ≤ most_frame_slots }
     ensures { result ≡ frame_size (placed_functions program.now) }
 {
-    4 * slots_of_functions(&program.functions) + 4
+    4 * slots_of_functions(program.functions()) + 4
 }

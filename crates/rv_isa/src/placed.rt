@@ -1,7 +1,7 @@
 // Assembler code whose values have places, with moves between places; and code that names its registers itself.
 
-ghost use Rattle.std.specs.Prelude.{◌≡◌, IfOk};
-ghost use Rattle.rv_isa.specs.PlacedCode.{placed_line_of};
+ghost use Rattle.std.specs.Prelude.{◌≡◌, IfOk, length, map};
+ghost use Rattle.rv_isa.specs.PlacedCode.{placed_line_of, placed_lines_of, placed_natives, placed_memory, placed_functions, placed_constants};
 
 use crate::asm::{Action, Condition};
 use crate::routine::Routine;
@@ -9,15 +9,65 @@ use crate::{Instr, Register};
 use kk_base::{NoMemory, Text};
 use std::alloc::Global;
 
-/// A text in its placed form: code over named registers, as the runtime is; functions whose values have places; and what
-/// both keep in memory. A call names a function by its index.
+/// A text in its placed form.
 #[derive(Debug, Drop)]
-pub struct Placed {
-    pub natives: Vec<Native>,
-    pub functions: Vec<PlacedFunction>,
-    /// Constant bytes, as in the assembler form.
-    pub constants: Vec<Text>,
-    pub memory: DataSection,
+pub enum Placed {
+    /// Code over named registers, as the runtime is, and the memory that it keeps.
+    Runtime {
+        lines: Vec<Native>,
+        memory: DataSection,
+    },
+    /// Functions whose values have places, and constant bytes, as in the assembler form. A call names a function by its index.
+    Program {
+        functions: Vec<PlacedFunction>,
+        constants: Vec<Text>,
+    },
+}
+
+impl Placed {
+    /// The lines over named registers: a program has none.
+    pub fn lines(&self) -> &[Native]
+        ensures { result.now ≡ placed_natives self.now }
+    {
+        match self {
+            Placed::Runtime { lines, .. } => lines,
+            Placed::Program { .. } => &[],
+        }
+    }
+
+    /// The memory that the text may write: a program has none of its own.
+    pub fn memory(&self) -> DataSection
+        ensures { result ≡ placed_memory self.now }
+    {
+        match self {
+            Placed::Runtime { memory, .. } => *memory,
+            Placed::Program { .. } => DataSection {
+                size: 0,
+                stack_bottom: 0,
+            },
+        }
+    }
+
+    /// The functions: a runtime has none.
+    pub fn functions(&self) -> &[PlacedFunction]
+        ensures functions { map placed_lines_of result.now ≡ placed_functions self.now }
+        ensures count { length result.now ≡ length (placed_functions self.now) }
+    {
+        match self {
+            Placed::Runtime { .. } => &[],
+            Placed::Program { functions, .. } => functions,
+        }
+    }
+
+    /// The constant bytes: a runtime has none.
+    pub fn constants(&self) -> &[Text]
+        ensures { result.now ≡ placed_constants self.now }
+    {
+        match self {
+            Placed::Runtime { .. } => &[],
+            Placed::Program { constants, .. } => constants,
+        }
+    }
 }
 
 /// The memory that a text may write.

@@ -2,7 +2,7 @@
 
 ghost use Rattle.std.specs.Prelude.{◌≡◌, ◌++◌, ◌⊎◌, ◌≤◌, [], IfOk, OnOk, drop, length, map, None};
 ghost use Rattle.rv_isa.specs.Costs.{placed_functions_length};
-ghost use Rattle.rv_isa.specs.PlacedCode.{does, placed_line_of, placed_lines_of, placed_functions};
+ghost use Rattle.rv_isa.specs.PlacedCode.{does, placed_line_of, placed_lines_of, placed_functions, placed_natives, placed_memory, placed_constants};
 ghost use Rattle.rv_loops.specs.Rotation.{mark, leaves, goes_on, rotated_line, rotated_code, IsRotated, AreRotated};
 ghost use Rattle.rv_loops.specs.Heads.{loop_of};
 
@@ -124,21 +124,21 @@ pub fn rotated(alloc: Global, program: Placed) -> Result<Placed, NoMemory>
     ensures functions { IfOk result (λ new. AreRotated 0 (placed_functions program) (placed_functions new)) }
     ensures short { IfOk result (λ new. placed_functions_length (placed_functions new)
         ≤ placed_functions_length (placed_functions program)) }
-    ensures natives { IfOk result (λ new. new.natives ≡ program.natives) }
-    ensures constants { IfOk result (λ new. new.constants ≡ program.constants) }
-    ensures memory { IfOk result (λ new. new.memory ≡ program.memory) }
+    ensures natives { IfOk result (λ new. placed_natives new ≡ placed_natives program) }
+    ensures constants { IfOk result (λ new. placed_constants new ≡ placed_constants program) }
+    ensures memory { IfOk result (λ new. placed_memory new ≡ placed_memory program) }
 {
-    let Placed {
-        natives,
-        functions,
-        constants,
-        memory,
-    } = program;
-    let functions = rotated_functions(alloc, &functions)?;
-    Ok(Placed {
-        natives,
-        functions,
-        constants,
-        memory,
-    })
+    match program {
+        Placed::Runtime { lines, memory } => Ok(Placed::Runtime { lines, memory }),
+        Placed::Program {
+            functions,
+            constants,
+        } => {
+            let functions = rotated_functions(alloc, &functions)?;
+            Ok(Placed::Program {
+                functions,
+                constants,
+            })
+        }
+    }
 }

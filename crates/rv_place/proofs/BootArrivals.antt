@@ -9,7 +9,7 @@ use Rattle.kk_base.proofs.Machines.{trace-add}
 use Rattle.kk_base.proofs.Simulations.{simulates_many}
 use Rattle.elf_image.specs.Program.{text_start}
 use Rattle.rv_isa.specs.declared.placed.Placed.{Placed}
-use Rattle.rv_isa.specs.PlacedCode.{PlacedLine, PlacedLines, placed_functions}
+use Rattle.rv_isa.specs.PlacedCode.{PlacedLine, PlacedLines, placed_functions, placed_natives, placed_memory}
 use Rattle.rv_isa.specs.Frames.{Frame}
 use Rattle.rv_isa.specs.LinePlaces.{PlacedIsAt, PlacedHasLine}
 use Rattle.rv_isa.specs.PlacedMachine.{PlacedState, PlacedTurn, placed_machine, placed_start}
@@ -106,7 +106,7 @@ module _ {cells depth : ℕ} {runtime program : Placed} {words : Words} {text : 
   functions = placed_functions program
 
   abbrev behind_runtime : ℕ
-  behind_runtime = text_start + 4 * words_of runtime.natives.items
+  behind_runtime = text_start + 4 * words_of (placed_natives runtime)
 
   pub image-apart : (f j g i : ℕ) → PlacedHasLine functions f j → PlacedHasLine functions g i
       → line_address map functions f j ≡ line_address map functions g i → (f ≡ g) × (j ≡ i)
@@ -136,7 +136,7 @@ module _ {cells depth : ℕ} {runtime program : Placed} {words : Words} {text : 
     start = placed_start main (first_world pool input)
 
     abbrev first : Processor
-    first = first_processor text runtime.memory.size input
+    first = first_processor text (placed_memory runtime).size input
 
     -- what the image has come to stands for a state of the machine, and has told the same events
     record Meets (n : ℕ) : Type 0 where

@@ -10,7 +10,7 @@ use Rattle.rv_isa.specs.declared.instr.Instr.{Instr}
 use Rattle.rv_isa.specs.declared.placed.Placed.{Placed}
 use Rattle.rv_isa.specs.declared.placed.Symbol.{Symbol}
 use Rattle.rv_isa.specs.declared.placed.Symbol.TheVariants as symbol
-use Rattle.rv_isa.specs.PlacedCode.{placed_functions}
+use Rattle.rv_isa.specs.PlacedCode.{placed_functions, placed_natives, placed_memory}
 use Rattle.rv_isa.specs.Sizes.{reach_down, wide_frame}
 use Rattle.rv_isa.specs.Standing.{Code, code_of}
 use Rattle.rv_isa.proofs.Standing.{Has-front, Has-get, code_of-Has, code_of-place}
@@ -76,12 +76,12 @@ pub record HasRoom (cells depth frame text memory bottom size : ℕ) : Type 0 wh
   pub few_frames : depth * frame ≤ greatest_depth * wide_frame
 
 pub has-room : {cells depth : ℕ} {runtime program : Placed} → cells ≤ greatest_cells → depth ≤ greatest_depth → IsText cells depth (frame_size (placed_functions program)) runtime → ArePlaceable runtime program
-    → HasRoom cells depth (frame_size (placed_functions program)) (text_bytes runtime program) (memory_of runtime program) runtime.memory.stack_bottom runtime.memory.size
+    → HasRoom cells depth (frame_size (placed_functions program)) (text_bytes runtime program) (memory_of runtime program) (placed_memory runtime).stack_bottom (placed_memory runtime).size
 has-room {cells} {depth} {runtime} {program} few_cells few_depth is_runtime placeable =
     let below = below_most (frame_size (placed_functions program)) in
-    let bottom_is : runtime.memory.stack_bottom ≡ 32 + 32 * cells + below_pointer (frame_size (placed_functions program)) =
+    let bottom_is : (placed_memory runtime).stack_bottom ≡ 32 + 32 * cells + below_pointer (frame_size (placed_functions program)) =
     ap (λ (section : DataSection). section.stack_bottom) is_runtime.memory in
-    let size_is : runtime.memory.size ≡ 32 + 32 * cells + below_pointer (frame_size (placed_functions program)) + depth * frame_size (placed_functions program) =
+    let size_is : (placed_memory runtime).size ≡ 32 + 32 * cells + below_pointer (frame_size (placed_functions program)) + depth * frame_size (placed_functions program) =
     ap (λ (section : DataSection). section.size) is_runtime.memory in
     record {
       few_text = bytes_most placeable;
@@ -125,11 +125,11 @@ module _ {cells depth : ℕ} {runtime program : Placed} {words : Words} (is_runt
   routine-at name before IsOfKind behind stands = (text_start + 4 * before, (before, subst (IsBehind name before) (sym is_runtime.labels) behind, refl), stands)
 
   pub has-ground : (text memory size : ℕ) → text ≡ text_bytes runtime program → memory ≡ memory_of runtime program → 1 ≤ depth → ArePlaceable runtime program
-      → HasRoom cells depth (frame_size (placed_functions program)) text memory runtime.memory.stack_bottom size
+      → HasRoom cells depth (frame_size (placed_functions program)) text memory (placed_memory runtime).stack_bottom size
       → Ground (map_of runtime program) (pool_in cells runtime program) (placed_functions program) depth memory stop_address (code_in words) (two_parts text memory size)
   has-ground text memory size text_is memory_is some_depth placeable room =
       let stands = runtime-stands in
-      let bias = bias_below (frame_size (placed_functions program)) jump_words (words_of runtime.natives.items + words_of_functions Near (placed_functions program)) in
+      let bias = bias_below (frame_size (placed_functions program)) jump_words (words_of (placed_natives runtime) + words_of_functions Near (placed_functions program)) in
       let some_cells = room.some_cells in
       let below = below_most (frame_size (placed_functions program)) in
       record {

@@ -8,7 +8,7 @@ use Rattle.kk_base.proofs.Simulations.{simulates_agree, simulates_many, simulate
 use Rattle.elf_image.specs.Program.{text_start, memory_start}
 use Rattle.rv_isa.specs.declared.placed.Placed.{Placed}
 use Rattle.rv_isa.specs.declared.placed.DataSection.{DataSection}
-use Rattle.rv_isa.specs.PlacedCode.{PlacedLines, placed_functions}
+use Rattle.rv_isa.specs.PlacedCode.{PlacedLines, placed_functions, placed_natives, placed_memory}
 use Rattle.rv_isa.specs.PlacedMachine.{placed_machine, placed_start}
 use Rattle.rv_isa.specs.Primitives.{ended}
 use Rattle.rv_isa.specs.Processor.{Processor, Ending, Progress, goes}
@@ -55,46 +55,46 @@ module _ {cells depth : ℕ} {runtime program : Placed} {words : Words} {text : 
   bytes_are : length text ≡ text_bytes runtime program
   bytes_are = text_size image.words_are image.text_is
 
-  room : HasRoom cells depth (frame_size (placed_functions program)) (length text) (memory_start (length text)) runtime.memory.stack_bottom runtime.memory.size
+  room : HasRoom cells depth (frame_size (placed_functions program)) (length text) (memory_start (length text)) (placed_memory runtime).stack_bottom (placed_memory runtime).size
   room =
-      subst (λ n. HasRoom cells depth (frame_size (placed_functions program)) n (memory_start n) runtime.memory.stack_bottom runtime.memory.size) (sym bytes_are)
+      subst (λ n. HasRoom cells depth (frame_size (placed_functions program)) n (memory_start n) (placed_memory runtime).stack_bottom (placed_memory runtime).size) (sym bytes_are)
       (has-room image.sizes.few_cells image.sizes.small_depth image.runtime_is image.placeable)
 
   pub image-ground : Ground (map_of runtime program) (pool_in cells runtime program) (placed_functions program) depth (memory_start (length text)) stop_address (code_in words) (parts_of text runtime)
   image-ground =
-      has-ground image.runtime_is image.words_are (length text) (memory_start (length text)) runtime.memory.size bytes_are (ap memory_start bytes_are) image.sizes.some_depth image.placeable room
+      has-ground image.runtime_is image.words_are (length text) (memory_start (length text)) (placed_memory runtime).size bytes_are (ap memory_start bytes_are) image.sizes.some_depth image.placeable room
 
   -- main stands behind the runtime
   main-at : (slice_get (map_of runtime program).entries 0 ≡ Some main_entry) × FunctionAt (map_of runtime program) (code_in words) main_entry main
   main-at =
       let found = function_found (map_of runtime program) (code_in words) (map_of runtime program).entries (placed_functions program) image.words_are.functions 0 main image.first in
       let entry_is : found.0 ≡ main_entry =
-      first_entry (jumps_of runtime program) (text_start + 4 * words_of runtime.natives.items) (placed_functions program) found.0 found.1 ∙ ap (λ n. text_start + 4 * n) image.runtime_is.words in
+      first_entry (jumps_of runtime program) (text_start + 4 * words_of (placed_natives runtime)) (placed_functions program) found.0 found.1 ∙ ap (λ n. text_start + 4 * n) image.runtime_is.words in
       subst (λ entry. (slice_get (map_of runtime program).entries 0 ≡ Some entry) × FunctionAt (map_of runtime program) (code_in words) entry main) entry_is (found.1, found.2)
 
   -- the stack pointer begins at the end of the memory
   stack_ends : memory_start (length text) + (layout_of cells depth (frame_size (placed_functions program))).stack_end
       ≡ stack_end (map_of runtime program) depth + frame_bias (jumps_of runtime program)
   stack_ends =
-      let size_is : runtime.memory.size ≡ (layout_of cells depth (frame_size (placed_functions program))).stack_end = ap (λ (section : DataSection). section.size) image.runtime_is.memory in
+      let size_is : (placed_memory runtime).size ≡ (layout_of cells depth (frame_size (placed_functions program))).stack_end = ap (λ (section : DataSection). section.size) image.runtime_is.memory in
       let same : memory_start (length text) ≡ memory_of runtime program = ap memory_start bytes_are in
-      let bias = bias_below (frame_size (placed_functions program)) jump_words (words_of runtime.natives.items + words_of_functions Near (placed_functions program)) in
+      let bias = bias_below (frame_size (placed_functions program)) jump_words (words_of (placed_natives runtime) + words_of_functions Near (placed_functions program)) in
       omega (arith, room.size_is, room.some_cells)
 
   module _ (input : List ℕ) (input_bytes : All (λ byte. byte < 256) input) where
     -- the start comes to main's entry
-    started : (t : Processor) × AfterStart (own_code image.runtime_is image.words_are) (pool_of cells (memory_start (length text))) (memory_start (length text) + (layout_of cells depth (frame_size (placed_functions program))).stack_end) main_entry text_start (first_processor text runtime.memory.size input) t
+    started : (t : Processor) × AfterStart (own_code image.runtime_is image.words_are) (pool_of cells (memory_start (length text))) (memory_start (length text) + (layout_of cells depth (frame_size (placed_functions program))).stack_end) main_entry text_start (first_processor text (placed_memory runtime).size input) t
     started =
         let end : ℕ = (layout_of cells depth (frame_size (placed_functions program))).stack_end in
         let starts : IsStart (pool_of cells (memory_start (length text))) (memory_start (length text) + end) main_entry (own_code image.runtime_is image.words_are) text_start =
         subst (λ n. IsStart (pool_of cells (memory_start n)) (memory_start n + end) main_entry (own_code image.runtime_is image.words_are) text_start) (sym bytes_are) (runtime-stands image.runtime_is image.words_are).start in
-        starts (first_processor text runtime.memory.size input) (record { stands = stands_part (own-part image.runtime_is image.words_are) (first-stands image.placeable image.words_are image.text_is runtime.memory.size input); pc_is = refl })
-        (usable cells depth (frame_size (placed_functions program)) (length text) (memory_start (length text)) runtime.memory.stack_bottom runtime.memory.size room) (omega arith)
+        starts (first_processor text (placed_memory runtime).size input) (record { stands = stands_part (own-part image.runtime_is image.words_are) (first-stands image.placeable image.words_are image.text_is (placed_memory runtime).size input); pc_is = refl })
+        (usable cells depth (frame_size (placed_functions program)) (length text) (memory_start (length text)) (placed_memory runtime).stack_bottom (placed_memory runtime).size room) (omega arith)
 
     started-rests : Rests (map_of runtime program) (code_in words) (parts_of text runtime) started.0
     started-rests =
         let constants = (map_of runtime program).constants in
-        let rests = first-rests image.placeable image.words_are image.text_is runtime.memory.size input in
+        let rests = first-rests image.placeable image.words_are image.text_is (placed_memory runtime).size input in
         record {
           stands = Stands-leads started.1.leads rests.stands;
           parts_are = started.1.parts;
@@ -120,7 +120,7 @@ module _ {cells depth : ℕ} {runtime program : Placed} {words : Words} {text : 
     few_first : first_steps ≤ 15
     few_first = omega (arith, few_steps (jumps_of runtime program) (takes_frame (jumps_of runtime program) main.code))
 
-    pub image-begins : Begins (map_of runtime program) (pool_in cells runtime program) (placed_functions program) depth stop_address (code_in words) (parts_of text runtime) main input first_steps (first_processor text runtime.memory.size input)
+    pub image-begins : Begins (map_of runtime program) (pool_in cells runtime program) (placed_functions program) depth stop_address (code_in words) (parts_of text runtime) main input first_steps (first_processor text (placed_memory runtime).size input)
     image-begins =
         let frame : ℕ = frame_size (placed_functions program) in
         let base : ℕ = stack_end (map_of runtime program) depth - frame in
@@ -136,12 +136,12 @@ module _ {cells depth : ℕ} {runtime program : Placed} {words : Words} {text : 
           simulates_agree _ _ _ _ pace simulates 3 (length main.code) (placed_start main (first_world (pool_in cells runtime program) input)) (goes image-begins.after)
           (never, (image-begins.after, refl, omega arith, omega arith, image-begins.running))
 
-      pub image-agrees : Agree (placed_machine (primitives (constants_of runtime program) (pool_in cells runtime program)) depth (placed_functions program)) (processor_machine rv32im) outside_lines (λ m. m * pace + length main.code + 1) (placed_start main (first_world (pool_in cells runtime program) input)) (goes (first_processor text runtime.memory.size input))
+      pub image-agrees : Agree (placed_machine (primitives (constants_of runtime program) (pool_in cells runtime program)) depth (placed_functions program)) (processor_machine rv32im) outside_lines (λ m. m * pace + length main.code + 1) (placed_start main (first_world (pool_in cells runtime program) input)) (goes (first_processor text (placed_memory runtime).size input))
       image-agrees =
-          agree_after_instructions _ 3 15 first_steps (λ m. m * pace + length main.code + 1) (placed_start main (first_world (pool_in cells runtime program) input)) (first_processor text runtime.memory.size input) image-begins.after few_first image-begins.walks.leads image-begins.told begins-agree
+          agree_after_instructions _ 3 15 first_steps (λ m. m * pace + length main.code + 1) (placed_start main (first_world (pool_in cells runtime program) input)) (first_processor text (placed_memory runtime).size input) image-begins.after few_first image-begins.walks.leads image-begins.told begins-agree
 
       -- no state of its run touches a free cell outside of the runtime's words
-      pub image-passes : (count : ℕ) → Passing (map_of runtime program) (pool_in cells runtime program) (run count (first_processor text runtime.memory.size input))
+      pub image-passes : (count : ℕ) → Passing (map_of runtime program) (pool_in cells runtime program) (run count (first_processor text (placed_memory runtime).size input))
       image-passes count =
           let later : (k : ℕ) → k < suc count → Passing (map_of runtime program) (pool_in cells runtime program) (run k image-begins.after)
           = λ k less. subst (Passing (map_of runtime program) (pool_in cells runtime program)) (state-run rv32im k image-begins.after)
@@ -152,14 +152,14 @@ module _ {cells depth : ℕ} {runtime program : Placed} {words : Words} {text : 
       -- where the machine ends, so does the image, and its memory has the cells of the world
       pub image-ends : (steps : ℕ) (how : Ending) (world : World)
           → state (placed_machine (primitives (constants_of runtime program) (pool_in cells runtime program)) depth (placed_functions program)) steps (placed_start main (first_world (pool_in cells runtime program) input)) ≡ ended how world
-          → (count : ℕ) × EndsWithCells (pool_in cells runtime program) how world (run count (first_processor text runtime.memory.size input))
+          → (count : ℕ) × EndsWithCells (pool_in cells runtime program) how world (run count (first_processor text (placed_memory runtime).size input))
       image-ends steps how world is =
           let reaches = simulates_many _ _ _ _ pace simulates steps 3 (length main.code) (placed_start main (first_world (pool_in cells runtime program) input)) (goes image-begins.after)
           (never, (image-begins.after, refl, omega arith, omega arith, image-begins.running)) in
           let last : Progress = state (processor_machine rv32im) reaches.steps (goes image-begins.after) in
           let related : Related (map_of runtime program) (pool_in cells runtime program) (placed_functions program) depth stop_address (code_in words) (parts_of text runtime) reaches.credit_after reaches.idle_after (ended how world) last
           = subst (λ turn. Related (map_of runtime program) (pool_in cells runtime program) (placed_functions program) depth stop_address (code_in words) (parts_of text runtime) reaches.credit_after reaches.idle_after turn last) is reaches.related in
-          let there : run (first_steps + reaches.steps) (first_processor text runtime.memory.size input) ≡ last = image-begins.walks.leads.by reaches.steps ∙ sym (state-run rv32im reaches.steps image-begins.after) in (
+          let there : run (first_steps + reaches.steps) (first_processor text (placed_memory runtime).size input) ≡ last = image-begins.walks.leads.by reaches.steps ∙ sym (state-run rv32im reaches.steps image-begins.after) in (
             first_steps + reaches.steps,
             subst (EndsWithCells (pool_in cells runtime program) how world) (sym there) (record {
               ending = related.1.0;

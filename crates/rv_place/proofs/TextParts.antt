@@ -13,7 +13,7 @@ use Rattle.rv_isa.specs.declared.placed.Section.{Section}
 use Rattle.rv_isa.specs.declared.placed.Section.TheVariants.{Data, Constants}
 use Rattle.rv_isa.specs.Arithmetic.{sum_word}
 use Rattle.rv_isa.specs.declared.placed.Placed.{Placed}
-use Rattle.rv_isa.specs.PlacedCode.{PlacedLines, placed_functions}
+use Rattle.rv_isa.specs.PlacedCode.{PlacedLines, placed_functions, placed_natives}
 use Rattle.rv_isa.specs.Sizes.{narrow_frame}
 use Rattle.rv_isa.specs.Standing.{Has, code_of}
 use Rattle.rv_isa.proofs.Standing.{Has-back, code_of-Has, code_of-get}
@@ -114,7 +114,7 @@ entries_among jumps at (function ∷ functions) (suc f) entry there word =
 -- a text whose jumps are near is short
 pub short_text : (runtime program : Placed) → jumps_of runtime program ≡ Near → text_start + 4 * text_words runtime program < text_start + 4 * jump_words
 short_text runtime program near =
-    let words = words_of runtime.natives.items + words_of_functions Near (placed_functions program) in
+    let words = words_of (placed_natives runtime) + words_of_functions Near (placed_functions program) in
     let few : words < jump_words =
     near_within jump_words words (near_narrow (nat_lt narrow_frame (frame_size (placed_functions program))) (reach_of jump_words words) near) in
     let same : words_of_functions (jumps_of runtime program) (placed_functions program) ≡ words_of_functions Near (placed_functions program) = ap (λ (j : Reach). words_of_functions j (placed_functions program)) near in

@@ -5,7 +5,7 @@ use Rattle.kk_base.specs.Sizes.{AreSizes}
 use Rattle.elf_image.specs.Parts as image
 use Rattle.elf_image.specs.Program.{text_start, program_parts}
 use Rattle.rv_isa.specs.declared.placed.Placed.{Placed}
-use Rattle.rv_isa.specs.PlacedCode.{PlacedLines, placed_functions}
+use Rattle.rv_isa.specs.PlacedCode.{PlacedLines, placed_functions, placed_memory}
 use Rattle.rv_isa.specs.Processor.{Processor, Ending, Progress, start, bare}
 use Rattle.rv_isa.specs.ProcessorMachine.{ended}
 use Rattle.rv_isa.specs.FreeCells.{free_list}
@@ -32,7 +32,7 @@ first_processor text size input = start (loaded_image text size) text_start inpu
 
 -- the parts and the code of a run of it
 abbrev pub parts_of : List ℕ → Placed → List Part
-parts_of text runtime = map bare (loaded_image text runtime.memory.size)
+parts_of text runtime = map bare (loaded_image text (placed_memory runtime).size)
 
 abbrev pub code_in : Words → Code
 code_in words = code_of text_start words.instructions.items

@@ -5,7 +5,7 @@ use Rattle.kk_base.specs.Limits.{greatest_of}
 use Rattle.elf_image.specs.Program.{text_start, memory_start}
 use Rattle.rv_isa.specs.declared.instr.Instr.{Instr}
 use Rattle.rv_isa.specs.declared.placed.Placed.{Placed}
-use Rattle.rv_isa.specs.PlacedCode.{placed_functions, placed_constants}
+use Rattle.rv_isa.specs.PlacedCode.{placed_functions, placed_constants, placed_natives, placed_memory}
 use Rattle.rv_isa.specs.Costs.{placed_functions_length}
 use Rattle.rv_isa.specs.Sizes.{narrow_frame, wide_frame}
 use Rattle.rv_isa.specs.Standing.{code_of}
@@ -61,9 +61,9 @@ greatest_bottom = 2 ^ 28
 -- A runtime and a program that can be placed: frames are so small that each slot is within reach of the stack pointer, and the
 -- text is small enough for a text part.
 pub record ArePlaceable (runtime program : Placed) : Type 0 where
-  pub lines : AreWithin greatest_reach runtime.natives.items
-  pub runtime_size : words_of runtime.natives.items ≤ most_runtime_words
-  pub bottom : runtime.memory.stack_bottom ≤ greatest_bottom
+  pub lines : AreWithin greatest_reach (placed_natives runtime)
+  pub runtime_size : words_of (placed_natives runtime) ≤ most_runtime_words
+  pub bottom : (placed_memory runtime).stack_bottom ≤ greatest_bottom
   pub frames : frame_size (placed_functions program) ≤ wide_frame
   pub few_functions : length (placed_functions program) ≤ most_functions
   pub short : placed_functions_length (placed_functions program) ≤ most_text_length
@@ -76,11 +76,11 @@ pub record ArePlaceable (runtime program : Placed) : Type 0 where
 abbrev pub jumps_of : Placed → Placed → Reach
 jumps_of runtime program =
     cond (nat_lt narrow_frame (frame_size (placed_functions program))) Wide
-    (reach_of jump_words (words_of runtime.natives.items + words_of_functions Near (placed_functions program)))
+    (reach_of jump_words (words_of (placed_natives runtime) + words_of_functions Near (placed_functions program)))
 
 -- how many instructions a text has
 abbrev pub text_words : Placed → Placed → ℕ
-text_words runtime program = words_of runtime.natives.items + words_of_functions (jumps_of runtime program) (placed_functions program)
+text_words runtime program = words_of (placed_natives runtime) + words_of_functions (jumps_of runtime program) (placed_functions program)
 
 -- how many bytes: its instructions and the constants
 abbrev pub text_bytes : Placed → Placed → ℕ
@@ -90,7 +90,7 @@ text_bytes runtime program = 4 * text_words runtime program + length (all_bytes 
 -- each line at its most, and the constants.
 abbrev pub most_bytes : Placed → Placed → ℕ
 most_bytes runtime program =
-    4 * (words_of runtime.natives.items + most_entry_words * length (placed_functions program)
+    4 * (words_of (placed_natives runtime) + most_entry_words * length (placed_functions program)
     + placed_functions_length (placed_functions program))
     + length (all_bytes (placed_constants program))
 
@@ -110,11 +110,11 @@ abbrev pub map_of : Placed → Placed → Map
 map_of runtime program = record {
   jumps = jumps_of runtime program;
   frame = frame_size (placed_functions program);
-  bottom = memory_of runtime program + runtime.memory.stack_bottom - frame_bias (jumps_of runtime program);
-  entries = entries_from (jumps_of runtime program) (text_start + 4 * words_of runtime.natives.items) (placed_functions program);
+  bottom = memory_of runtime program + (placed_memory runtime).stack_bottom - frame_bias (jumps_of runtime program);
+  entries = entries_from (jumps_of runtime program) (text_start + 4 * words_of (placed_natives runtime)) (placed_functions program);
   takes = frames_taken (jumps_of runtime program) (placed_functions program);
   runtime = text_start;
-  labels = labels_of 0 runtime.natives.items;
+  labels = labels_of 0 (placed_natives runtime);
   constants = constants_of runtime program;
 }
 
@@ -124,8 +124,8 @@ pub record ArePlacedWords (runtime program : Placed) (words : Words) : Type 0 wh
   pub own : List Instr
   pub rest : List Instr
   pub instructions : words.instructions.items ≡ own ++ rest
-  pub spelled : Spells (memory_of runtime program) runtime.natives.items own
-  pub own_size : length own ≡ words_of runtime.natives.items
+  pub spelled : Spells (memory_of runtime program) (placed_natives runtime) own
+  pub own_size : length own ≡ words_of (placed_natives runtime)
   pub size : length words.instructions.items ≡ text_words runtime program
   pub functions : FunctionsAt (map_of runtime program) (code_of text_start words.instructions.items) (map_of runtime program).entries (placed_functions program)
   pub constants : words.constants.items ≡ all_bytes (placed_constants program)

@@ -5,7 +5,7 @@ ghost use Rattle.kk_base.specs.Machines.{state, trace};
 ghost use Rattle.rv_isa.specs.declared.placed.Placed.{Placed};
 ghost use Rattle.rv_isa.specs.Execution.{rv32im, run};
 ghost use Rattle.rv_isa.specs.LinePlaces.{PlacedIsAt, PlacedHasLine};
-ghost use Rattle.rv_isa.specs.PlacedCode.{PlacedLines, placed_functions};
+ghost use Rattle.rv_isa.specs.PlacedCode.{PlacedLines, placed_functions, placed_memory};
 ghost use Rattle.rv_isa.specs.PlacedMachine.{PlacedState, placed_machine, placed_start};
 ghost use Rattle.rv_isa.specs.Primitives.{go};
 ghost use Rattle.rv_isa.specs.Processor.{Processor, goes};
@@ -37,9 +37,9 @@ pub fn placed_text_comes_to_its_lines()
         → PlacedIsAt (placed_functions program) f j shared
         (state (placed_machine (primitives (constants_of runtime program) (pool_in cells runtime program)) depth
         (placed_functions program)) n (placed_start main (first_world (pool_in cells runtime program) input)))
-        → (count : ℕ) × ((s : Processor) × ((run count (first_processor text runtime.memory.size input) ≡ goes s)
+        → (count : ℕ) × ((s : Processor) × ((run count (first_processor text (placed_memory runtime).size input) ≡ goes s)
         × ((s.pc ≡ line_address (map_of runtime program) (placed_functions program) f j)
-        × ((trace (processor_machine rv32im) count (goes (first_processor text runtime.memory.size input))
+        × ((trace (processor_machine rv32im) count (goes (first_processor text (placed_memory runtime).size input))
         ≡ trace (placed_machine (primitives (constants_of runtime program) (pool_in cells runtime program)) depth
         (placed_functions program)) n (placed_start main (first_world (pool_in cells runtime program) input)))
         × HasCells (pool_in cells runtime program) shared.cells s)))) }
@@ -50,8 +50,8 @@ pub fn placed_text_comes_to_its_lines()
         → (n : ℕ) (t : PlacedState World)
         → state (placed_machine (primitives (constants_of runtime program) (pool_in cells runtime program)) depth
         (placed_functions program)) n (placed_start main (first_world (pool_in cells runtime program) input)) ≡ go t
-        → (count : ℕ) × ((s : Processor) × ((run count (first_processor text runtime.memory.size input) ≡ goes s)
-        × ((trace (processor_machine rv32im) count (goes (first_processor text runtime.memory.size input))
+        → (count : ℕ) × ((s : Processor) × ((run count (first_processor text (placed_memory runtime).size input) ≡ goes s)
+        × ((trace (processor_machine rv32im) count (goes (first_processor text (placed_memory runtime).size input))
         ≡ trace (placed_machine (primitives (constants_of runtime program) (pool_in cells runtime program)) depth
         (placed_functions program)) n (placed_start main (first_world (pool_in cells runtime program) input)))
         × HasHeldTokens (map_of runtime program) (pool_in cells runtime program) depth t s))) }

@@ -7,7 +7,7 @@ ghost use Rattle.rv_isa.specs.declared.placed.Placed.{Placed};
 ghost use Rattle.rv_isa.specs.Execution.{rv32im, run};
 ghost use Rattle.rv_isa.specs.FreeTouches.{TouchesNoFreeCell};
 ghost use Rattle.rv_isa.specs.Primitives.{ended};
-ghost use Rattle.rv_isa.specs.PlacedCode.{PlacedLines, placed_functions};
+ghost use Rattle.rv_isa.specs.PlacedCode.{PlacedLines, placed_functions, placed_memory};
 ghost use Rattle.rv_isa.specs.PlacedMachine.{placed_machine, placed_start};
 ghost use Rattle.rv_isa.specs.Processor.{Ending, goes};
 ghost use Rattle.rv_isa.specs.ProcessorMachine.{processor_machine};
@@ -27,7 +27,7 @@ pub fn placed_text_agrees()
     ensures { (cells depth : ℕ) (runtime program : Placed) (words : Words) (text input : List ℕ) (main : PlacedLines)
         → IsPlacedImage cells depth runtime program words text main → All (λ byte. byte < 256) input
         → NeverStuck (map_of runtime program) (pool_in cells runtime program) (placed_functions program) depth (placed_start main (first_world (pool_in cells runtime program) input))
-        → (up : ℕ → ℕ) × Agree (placed_machine (primitives (constants_of runtime program) (pool_in cells runtime program)) depth (placed_functions program)) (processor_machine rv32im) outside_lines up (placed_start main (first_world (pool_in cells runtime program) input)) (goes (first_processor text runtime.memory.size input)) }
+        → (up : ℕ → ℕ) × Agree (placed_machine (primitives (constants_of runtime program) (pool_in cells runtime program)) depth (placed_functions program)) (processor_machine rv32im) outside_lines up (placed_start main (first_world (pool_in cells runtime program) input)) (goes (first_processor text (placed_memory runtime).size input)) }
 {}
 
 /// Where the machine of the placed form comes to an end, the image exits alike, with the same trace, and its free cells are
@@ -38,7 +38,7 @@ pub fn placed_text_ends_with_its_cells()
         → NeverStuck (map_of runtime program) (pool_in cells runtime program) (placed_functions program) depth (placed_start main (first_world (pool_in cells runtime program) input))
         → (steps : ℕ) (how : Ending) (world : World)
         → state (placed_machine (primitives (constants_of runtime program) (pool_in cells runtime program)) depth (placed_functions program)) steps (placed_start main (first_world (pool_in cells runtime program) input)) ≡ ended how world
-        → (count : ℕ) × EndsWithCells (pool_in cells runtime program) how world (run count (first_processor text runtime.memory.size input)) }
+        → (count : ℕ) × EndsWithCells (pool_in cells runtime program) how world (run count (first_processor text (placed_memory runtime).size input)) }
 {}
 
 /// At each moment of a run of the image of a placed text, before its end, at which the program counter is outside of the
@@ -48,5 +48,5 @@ pub fn placed_text_touches_no_free_cell()
     ensures { (cells depth : ℕ) (runtime program : Placed) (words : Words) (text input : List ℕ) (main : PlacedLines)
         → IsPlacedImage cells depth runtime program words text main → All (λ byte. byte < 256) input
         → NeverStuck (map_of runtime program) (pool_in cells runtime program) (placed_functions program) depth (placed_start main (first_world (pool_in cells runtime program) input))
-        → (count : ℕ) → TouchesNoFreeCell text_start runtime_words cells (run count (first_processor text runtime.memory.size input)) }
+        → (count : ℕ) → TouchesNoFreeCell text_start runtime_words cells (run count (first_processor text (placed_memory runtime).size input)) }
 {}

@@ -3,7 +3,7 @@
 ghost use Rattle.std.specs.Prelude.{◌≡◌, ◌+◌, ◌*◌, ◌^◌, ◌<◌, ◌≤◌, [], ◌∷◌, IfOk, OnOk, length, map};
 ghost use Rattle.elf_image.specs.Program.{text_start};
 ghost use Rattle.rv_isa.specs.Costs.{placed_functions_length};
-ghost use Rattle.rv_isa.specs.PlacedCode.{placed_lines_of, placed_functions};
+ghost use Rattle.rv_isa.specs.PlacedCode.{placed_lines_of, placed_functions, placed_natives};
 ghost use Rattle.cell_runtime.specs.Operations.{all_bytes};
 ghost use Rattle.cell_runtime.specs.Lines.{Spells, words_of};
 ghost use Rattle.rv_place.specs.Addresses.{entries_from, frames_taken};
@@ -32,8 +32,8 @@ fn jumps_of(runtime: &Placed, program: &Placed) -> Reach
     requires { ArePlaceable runtime.now program.now }
     ensures { result ≡ jumps_of runtime.now program.now }
 {
-    let own = words_of_natives(&runtime.natives);
-    let words = own + words_of_functions(Reach::Near, &program.functions);
+    let own = words_of_natives(runtime.lines());
+    let words = own + words_of_functions(Reach::Near, program.functions());
     if frame_bytes(program) > NARROW_FRAME {
         Reach::Wide
     } else {
@@ -48,7 +48,7 @@ fn text_words(runtime: &Placed, program: &Placed) -> u32
     ensures few { result ≤ most_text_words }
 {
     let jumps = jumps_of(runtime, program);
-    words_of_natives(&runtime.natives) + words_of_functions(jumps, &program.functions)
+    words_of_natives(runtime.lines()) + words_of_functions(jumps, program.functions())
 }
 
 /// The address of the memory behind the text.
@@ -57,16 +57,16 @@ fn memory_of(runtime: &Placed, program: &Placed) -> u32
     ensures address { result ≡ memory_of runtime.now program.now }
     ensures low { result ≤ greatest_address }
 {
-    let bytes = 4 * text_words(runtime, program) + bytes_of_constants(&program.constants);
+    let bytes = 4 * text_words(runtime, program) + bytes_of_constants(program.constants());
     (TEXT_START + bytes).next_multiple_of(PAGE_SIZE)
 }
 
 /// The address of the first function of a program, behind the runtime.
 fn first_entry(runtime: &Placed) -> u32
-    requires { words_of runtime.now.natives.items ≤ most_runtime_words }
-    ensures { result ≡ text_start + 4 * words_of runtime.now.natives.items }
+    requires { words_of (placed_natives runtime.now) ≤ most_runtime_words }
+    ensures { result ≡ text_start + 4 * words_of (placed_natives runtime.now) }
 {
-    TEXT_START + 4 * words_of_natives(&runtime.natives)
+    TEXT_START + 4 * words_of_natives(runtime.lines())
 }
 
 /// The addresses of functions that stand one behind the other.
@@ -137,16 +137,16 @@ fn chart_of(alloc: Global, runtime: &Placed, program: &Placed) -> Result<Chart, 
     ensures { IfOk result (λ chart. Charts chart (map_of runtime.now program.now)) }
 {
     let jumps = jumps_of(runtime, program);
-    let entries = entries(alloc, jumps, first_entry(runtime), &program.functions)?;
-    let takes = frames_taken(alloc, jumps, &program.functions)?;
+    let entries = entries(alloc, jumps, first_entry(runtime), program.functions())?;
+    let takes = frames_taken(alloc, jumps, program.functions())?;
     let first = TEXT_START + 4 * text_words(runtime, program);
-    let constants = constant_addresses(alloc, first, &program.constants)?;
+    let constants = constant_addresses(alloc, first, program.constants())?;
     Ok(Chart {
         jumps,
         frame: frame_bytes(program),
         entries,
         takes,
-        symbols: Symbols::of(&runtime.natives),
+        symbols: Symbols::of(runtime.lines()),
         constants,
     })
 }
@@ -186,15 +186,15 @@ pub fn place(alloc: Global, runtime: &Placed, program: &Placed) -> Result<Words,
 {
     let chart = chart_of(alloc, runtime, program)?;
     let memory = memory_of(runtime, program);
-    let mut instructions = natives_code(alloc, memory, &runtime.natives)?;
+    let mut instructions = natives_code(alloc, memory, runtime.lines())?;
     emit_functions(
         alloc,
         &mut instructions,
         &chart,
         first_entry(runtime),
-        &program.functions,
+        program.functions(),
     )?;
-    let constants = constant_bytes(alloc, &program.constants)?;
+    let constants = constant_bytes(alloc, program.constants())?;
     Ok(Words {
         instructions,
         constants,

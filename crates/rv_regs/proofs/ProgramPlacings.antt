@@ -3,7 +3,7 @@ use Rattle.std.proofs.Common.{◌≡◌, ◌≤◌, ℕ, List, [], ◌∷◌, �
 use Rattle.rv_isa.specs.declared.placed.Placed.{Placed}
 use Rattle.rv_isa.specs.AsmCode.{Lines}
 use Rattle.rv_isa.specs.Costs.{functions_length, placed_functions_length}
-use Rattle.rv_isa.specs.PlacedCode.{PlacedLines, placed_functions}
+use Rattle.rv_isa.specs.PlacedCode.{PlacedLines, placed_functions, placed_memory}
 use Rattle.rv_isa.specs.ValueBounds.{HaveValuesBelow}
 use Rattle.rv_isa.specs.WellFormed.{IsWellFormed}
 use Rattle.rv_regs.specs.Conditions.{ArePlacings}
@@ -44,7 +44,7 @@ right_length [] (p ∷ ps) right = absurd right
 right_length (f ∷ fs) [] right = absurd right
 right_length (f ∷ fs) (p ∷ ps) right = omega (arith, right.0.modest.short, right_length fs ps right.1)
 
-pub right_shape : (functions : List Lines) (placed : Placed) → AreRight functions (placed_functions placed) → placed.memory ≡ record { size = 0; stack_bottom = 0 }
+pub right_shape : (functions : List Lines) (placed : Placed) → AreRight functions (placed_functions placed) → placed_memory placed ≡ record { size = 0; stack_bottom = 0 }
     → IsPlainlyPlaced functions placed
 right_shape functions placed right memory =
     record {

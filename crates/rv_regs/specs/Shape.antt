@@ -7,7 +7,7 @@ use Rattle.rv_isa.specs.declared.placed.Place.{Place}
 use Rattle.rv_isa.specs.declared.placed.Place.TheVariants.{Register as register, Slot as slot}
 use Rattle.rv_isa.specs.declared.placed.Placed.{Placed}
 use Rattle.rv_isa.specs.AsmCode.{Lines}
-use Rattle.rv_isa.specs.PlacedCode.{PlacedLine, does, moves, PlacedLines, placed_functions, from_of, to_of}
+use Rattle.rv_isa.specs.PlacedCode.{PlacedLine, does, moves, PlacedLines, placed_functions, from_of, to_of, placed_memory}
 use Rattle.rv_isa.specs.Costs.{move_instructions, code_length, functions_length, placed_code_length, placed_functions_length}
 use Rattle.rv_isa.specs.ValueBounds.{HasValuesBelow, HaveValuesBelow}
 use Rattle.rv_regs.specs.Conditions.{IsPlacing}
@@ -63,4 +63,4 @@ pub record IsPlainlyPlaced (functions : List Lines) (placed : Placed) : Type 0 w
   pub few_moves : AllFewMoves (placed_functions placed)
   pub slots : (most : ℕ) → HaveValuesBelow most functions → HaveSlotsBelow most (placed_functions placed)
   pub short : placed_functions_length (placed_functions placed) ≤ functions_length functions
-  pub memory : placed.memory ≡ record { size = 0; stack_bottom = 0 }
+  pub memory : placed_memory placed ≡ record { size = 0; stack_bottom = 0 }

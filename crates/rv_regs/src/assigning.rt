@@ -103,13 +103,8 @@ pub fn assign(alloc: Global, asm: &Asm) -> Result<Placed, NoMemory>
 {
     let functions = place_functions(alloc, &asm.functions)?;
     let constants = copied(alloc, &asm.constants)?;
-    Ok(Placed {
-        natives: Vec::new(alloc),
+    Ok(Placed::Program {
         functions,
         constants,
-        memory: DataSection {
-            size: 0,
-            stack_bottom: 0,
-        },
     })
 }

@@ -154,9 +154,9 @@ fn same_constants(a: &[Text], b: &[Text]) -> bool
 pub fn valid(asm: &Asm, placed: &Placed) -> bool
     ensures { IsTrue result ↔ IsValid asm.now placed.now }
 {
-    are_placings(&asm.functions, &placed.functions)
-        && same_constants(&placed.constants, &asm.constants)
-        && placed.natives.is_empty()
+    are_placings(&asm.functions, placed.functions())
+        && same_constants(placed.constants(), &asm.constants)
+        && placed.lines().is_empty()
 }
 
 fn alive_of(item: &Item) -> &[Listed]

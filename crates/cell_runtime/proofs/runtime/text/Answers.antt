@@ -25,8 +25,8 @@ returns c =
     let whole = composes_then (Routine ReadByte) c.in_ok-add-8.ensures print_text c.read_byte.ensures in
     record {
       memory = ap (λ l. record { size = l.stack_end; stack_bottom = l.stack }) c.new-layout.ensures;
-      functions = c.new.ensures.items;
-      constants = c.new-2.ensures.items;
+      functions = refl;
+      constants = refl;
       words = whole.size;
       labels = whole.labels_are;
       within =

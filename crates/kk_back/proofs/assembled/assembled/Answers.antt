@@ -1,7 +1,8 @@
 use Rattle.std.proofs.Common.{◌≡◌, ◌+◌, ◌≤◌, ℕ, List, length, sym, subst, ◌∙◌, ap, arith}
 use Rattle.rv_isa.specs.AsmCode.{Lines, asm_functions, asm_constants}
-use Rattle.rv_isa.specs.PlacedCode.{placed_functions}
+use Rattle.rv_isa.specs.PlacedCode.{placed_functions, placed_memory}
 use Rattle.rv_isa.specs.Sizes.{wide_frame}
+use Rattle.rv_isa.specs.declared.placed.DataSection.{DataSection}
 use Rattle.rv_isa.specs.WellFormed.{most_values}
 use Rattle.rv_isa.proofs.ValueBounds.{all_values_below}
 use Rattle.elf_image.specs.Parts.{greatest_end}
@@ -55,11 +56,12 @@ program-requires-clause-text_fits c =
 
 pub program-requires-clause-memory_fits : goal.program-requires-clause-memory_fits
 program-requires-clause-memory_fits c =
-    subst (λ (text : List ℕ). memory_start (length text) + c.in_ok-runtime.runtime.memory.size ≤ greatest_end) (sym c.from_vec.ensures)
+    subst (λ (section : DataSection). memory_start (length c.from_vec.result) + section.size ≤ greatest_end) (sym c.memory.ensures)
+    (subst (λ (text : List ℕ). memory_start (length text) + (placed_memory c.in_ok-runtime.runtime).size ≤ greatest_end) (sym c.from_vec.ensures)
     (fits (makes_of {frame = c.frame_bytes.result} c.requires.sizes c.requires.placeable c.in_ok-placed.ensures.valid
     c.in_ok-placed.ensures.shape
     (looped_by c.in_ok-program.ensures.functions c.in_ok-program.ensures.short c.in_ok-program.ensures.constants)
-    c.frame_bytes.ensures c.in_ok-runtime.ensures c.in_ok-words.ensures c.in_ok-bytes.ensures)).memory_fits
+    c.frame_bytes.ensures c.in_ok-runtime.ensures c.in_ok-words.ensures c.in_ok-bytes.ensures)).memory_fits)
 
 pub returns : goal.returns
 returns c main there =
@@ -79,4 +81,5 @@ returns c main there =
     })
     c.placed_text_takes_few_bytes.ensures
     c.in_ok-image.image.entry c.in_ok-image.image.parts c.in_ok-image.ensures.is_program c.in_ok-image.ensures.entry
-    (c.in_ok-image.ensures.parts ∙ ap (λ (text : List ℕ). program_parts text c.in_ok-runtime.runtime.memory.size) c.from_vec.ensures))
+    (c.in_ok-image.ensures.parts ∙ ap (λ (section : DataSection). program_parts c.from_vec.result section.size) c.memory.ensures
+    ∙ ap (λ (text : List ℕ). program_parts text (placed_memory c.in_ok-runtime.runtime).size) c.from_vec.ensures))

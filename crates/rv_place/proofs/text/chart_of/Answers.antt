@@ -1,8 +1,7 @@
 use Rattle.std.proofs.Common.{◌≡◌, ℕ, ◌+◌, ◌*◌, List, Some, map, slice_get, sym, ap, ◌∙◌, subst, arith, refl}
 use Rattle.elf_image.specs.Program.{text_start}
 use Rattle.rv_isa.specs.declared.placed.Native.{Native}
-use Rattle.rv_isa.specs.declared.placed.PlacedFunction.{PlacedFunction}
-use Rattle.rv_isa.specs.PlacedCode.{placed_lines_of, placed_functions, placed_constants}
+use Rattle.rv_isa.specs.PlacedCode.{placed_lines_of, placed_functions, placed_constants, placed_natives}
 use Rattle.cell_runtime.specs.Lines.{words_of, labels_of}
 use Rattle.rv_place.specs.Addresses.{entries_from, frames_taken}
 use Rattle.rv_place.specs.Texts.{jumps_of, text_words}
@@ -16,31 +15,31 @@ pub returns : goal.returns
 returns c =
     let runtime = c.args.runtime.now in
     let program = c.args.program.now in
-    let first = text_start + 4 * words_of runtime.natives.items in
+    let first = text_start + 4 * words_of (placed_natives runtime) in
     let constants : c.in_ok-constants.constants.items ≡ addresses_from (text_start + 4 * text_words runtime program) (placed_constants program) =
     c.in_ok-constants.ensures
-    ∙ ap (λ (words : ℕ). addresses_from (text_start + 4 * words) c.deref-3.result.now) c.text_words.ensures.words
-    ∙ ap (addresses_from (text_start + 4 * text_words runtime program)) c.deref-3.ensures.value in
+    ∙ ap (λ (words : ℕ). addresses_from (text_start + 4 * words) c.constants.result.now) c.text_words.ensures.words
+    ∙ ap (addresses_from (text_start + 4 * text_words runtime program)) c.constants.ensures in
     record {
       jumps = c.jumps_of-jumps.ensures;
       frame = c.frame_bytes.ensures;
       entries =
           c.in_ok-entries.ensures
-          ∙ ap (λ (jumps : Reach). entries_from jumps c.first_entry.result (map placed_lines_of c.deref.result.now)) c.jumps_of-jumps.ensures
-          ∙ ap (λ (at : ℕ). entries_from (jumps_of runtime program) at (map placed_lines_of c.deref.result.now)) c.first_entry.ensures
-          ∙ ap (λ (functions : List PlacedFunction). entries_from (jumps_of runtime program) first (map placed_lines_of functions)) c.deref.ensures.value;
+          ∙ ap (λ (jumps : Reach). entries_from jumps c.first_entry.result (map placed_lines_of c.functions.result.now)) c.jumps_of-jumps.ensures
+          ∙ ap (λ (at : ℕ). entries_from (jumps_of runtime program) at (map placed_lines_of c.functions.result.now)) c.first_entry.ensures
+          ∙ ap (entries_from (jumps_of runtime program) first) c.functions.ensures.functions;
       takes =
           c.in_ok-takes.ensures
-          ∙ ap (λ (jumps : Reach). frames_taken jumps (map placed_lines_of c.deref-2.result.now)) c.jumps_of-jumps.ensures
-          ∙ ap (λ (functions : List PlacedFunction). frames_taken (jumps_of runtime program) (map placed_lines_of functions)) c.deref-2.ensures.value;
+          ∙ ap (λ (jumps : Reach). frames_taken jumps (map placed_lines_of c.functions-2.result.now)) c.jumps_of-jumps.ensures
+          ∙ ap (frames_taken (jumps_of runtime program)) c.functions-2.ensures.functions;
       entries_in = λ f entry there.
           let among = entries_among (jumps_of runtime program) first (placed_functions program) f entry there (omega arith) in
           record { word = among.word; low = omega (arith, among.low); high = omega (arith, among.high) };
-      symbols_in = λ name before behind. let within = symbols_within name before 0 runtime.natives.items behind in omega (arith, within);
+      symbols_in = λ name before behind. let within = symbols_within name before 0 (placed_natives runtime) behind in omega (arith, within);
       first_word = refl;
       short = λ near. short_text runtime program near;
       below = let words = c.text_words.ensures.words in let few = c.text_words.ensures.few in omega arith;
-      symbols = subst (λ (natives : List Native). AreSymbols text_start (labels_of 0 natives) c.of.result) c.deref-4.ensures.value c.of.ensures;
+      symbols = subst (λ (natives : List Native). AreSymbols text_start (labels_of 0 natives) c.of.result) c.lines.ensures c.of.ensures;
       constants = λ index address there.
           subst (λ (addresses : List ℕ). slice_get addresses index ≡ Some address) (sym constants)
           (addresses_get (text_start + 4 * text_words runtime program) (placed_constants program) index address there);
