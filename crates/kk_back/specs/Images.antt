@@ -76,7 +76,7 @@ HasHeap pool layout heap s =
 -- The addresses of the forms of a program with tokens in its image, by its bare form. Each call, print and construction with fields
 -- has one instruction address of its own or more: more where its code stands more than once, behind tests of tokens. Each is a
 -- multiple of 4 behind the runtime's words, which stand at the entry, and a word can be fetched there as an instruction. No two
--- forms share an address. With each room for tokens in its costs, and on each input of bytes, the image follows the counted
+-- forms share an address. Whatever room for tokens its costs have, and on each input of bytes, the image follows the counted
 -- machine: where that is at a form, there is a number of instructions behind which the run goes on, memory has the cells of the
 -- counted heap, and the same events are told. Where the form is a call, a print or a construction with fields, there is such a
 -- number behind which the program counter is at an address of a place with this form's code (where two places of the program have

@@ -37,7 +37,7 @@ pub record IsPlacedIn (placed : Placed) (cells depth : ℕ) (parts : List Part) 
 -- The cells of a pool and so many frames of so many bytes fill the memory of an image, as the runtime lays them out (cell_runtime,
 -- `layout_of`). Behind the text come the runtime's buffer, the cells and the frames, and with these the memory ends. Only where frames
 -- are larger than a load reaches from their first word, as many bytes as `below_pointer` says are left behind them. At any depth but 0
--- frames of one size alone fill a memory.
+-- no other size of frames fills the same memory.
 pub record FillMemory (pool : Pool) (depth frame : ℕ) (parts : List Part) : Type 0 where
   pub first : pool.first ≡ memory_start (length (text_of parts)) + (layout_of pool.cells depth frame).cells
   pub size : memory_size_of parts ≡ (layout_of pool.cells depth frame).stack_end

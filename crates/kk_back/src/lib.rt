@@ -50,7 +50,7 @@ use std::alloc::Global;
 /// instructions behind which the same events are told and memory has that state. The chain of held tokens has those of the state,
 /// in their order, each in a word of the frame of its call; each other token is in a cell in hand, which is on no chain; and the
 /// cell of each token has the fields that it had when it was opened. The frames stand from the end of the cells on, that of `main`
-/// last, and with the cells they fill the memory behind the buffer.
+/// last, and with the cells they fill the memory behind the buffer, but for 2,048 bytes behind wide frames.
 pub fn image(
     alloc: Global,
     tokened: &Tokened,
