@@ -1,6 +1,6 @@
 -- The image of assembler code does what that code does, layer by layer: the placed code, that code with its loops rotated, and the
 -- processor.
-use Rattle.std.proofs.Common.{◌≡◌, ◌+◌, ◌*◌, ◌%◌, ◌^◌, ◌<◌, ◌≤◌, ◌≢◌, ◌⊎◌, inl, inr, ℕ, true, List, All, Some, length, slice_get, refl, sym, ap, subst, ◌∙◌, arith, Vec, Global}
+use Rattle.std.proofs.Common.{◌≡◌, ◌+◌, ◌*◌, ◌%◌, ◌^◌, ◌<◌, ◌≤◌, ◌≢◌, ◌⊎◌, inl, inr, ℕ, true, List, All, Some, length, slice_get, refl, sym, ap, subst, ◌∙◌, arith}
 use Rattle.std.specs.Prelude.{not}
 use Rattle.std.proofs.lemmas.Bool.{and_parts}
 use Rattle.kk_base.specs.Agreements.{Agree}
@@ -95,7 +95,7 @@ looped_by rotated short constants = record { rotated = rotated; short = short; c
 -- the constants are those of the assembler code
 constants_kept : (asm : Asm) (placed looped : Placed) → IsValid asm placed → IsLooped placed looped
     → placed_constants looped ≡ asm_constants asm
-constants_kept asm placed looped valid loops = ap (λ (constants : Vec (List ℕ) Global). constants.items) loops.constants ∙ valid.constants
+constants_kept asm placed looped valid loops = loops.constants ∙ valid.constants
 
 -- there are no more slots than values
 pub few_slots : (asm : Asm) (placed looped : Placed) → IsPlainlyPlaced (asm_functions asm) placed → IsLooped placed looped
