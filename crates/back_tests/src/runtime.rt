@@ -425,7 +425,7 @@ fn program(alloc: Global, cells: u32, main: &[&[u32]]) -> Result<(Vec<u8>, u32),
 {
     let placed = text(alloc, cells, 1, 64)?;
     let mut bytes = Vec::new(alloc);
-    for line in placed.lines().iter() {
+    for line in placed.natives().iter() {
         match line {
             Native::Instruction(instruction) => push_word(&mut bytes, encode(*instruction))?,
             Native::Address { rd, offset, .. } => push_address(&mut bytes, *rd, *offset)?,
@@ -462,7 +462,7 @@ fn check(rt: &impl Abort, alloc: Global, row: &Row) -> Result<(), Fail> {
 #[test]
 fn largest_text(rt: HostRuntime) -> Result<(), Fail> {
     let placed = text(rt.alloc(), 1_048_576, 65_536, 4096)?;
-    assert_eq!(rt; placed.lines().len(), 104);
+    assert_eq!(rt; placed.natives().len(), 104);
     assert_eq!(rt; placed.memory().stack_bottom, 33_556_512);
     assert_eq!(rt; placed.memory().size, 301_991_968);
     Ok(())

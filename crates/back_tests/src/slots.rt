@@ -3,7 +3,9 @@ ghost use Rattle.rv_isa.specs.AsmCode.{line_of, asm_functions};
 ghost use Rattle.rv_isa.specs.WellFormed.{AreWellFormed};
 
 use kk_base::NoMemory;
-use rv_isa::{Action, Asm, AsmFunction, Item, Operation, RegisterOperation, Statement};
+use rv_isa::{
+    Action, Asm, AsmFunction, Item, Operation, RegisterOperation, Routine, Statement, Way,
+};
 use rv_regs::{assign, valid};
 use std::alloc::Global;
 use std::test::Fail;
@@ -41,6 +43,24 @@ fn sum_of_two(alloc: Global) -> Result<Asm, NoMemory>
     })
 }
 
+/// A function that gives up a reference of its parameter and returns it.
+fn drop_and_return(alloc: Global) -> Result<Asm, NoMemory>
+    ensures { IfOk result (λ asm. AreWellFormed (asm_functions asm)) }
+{
+    let first = statement(alloc, Action::Routine(Routine::Drop), &[0], None)?;
+    let second = statement(alloc, Action::Return, &[0], None)?;
+    let mut code = Vec::new(alloc);
+    code.push(first)?;
+    code.push(second)?;
+    let params = Vec::from_slice(alloc, &[0])?;
+    let mut functions = Vec::new(alloc);
+    functions.push(AsmFunction { params, code })?;
+    Ok(Asm {
+        functions,
+        constants: Vec::new(alloc),
+    })
+}
+
 fn is_move(item: &Item) -> bool {
     match item {
         Item::Does { .. } => false,
@@ -60,5 +80,30 @@ fn values_stay_in_registers(rt: HostRuntime) -> Result<(), Fail> {
     for item in code {
         assert!(rt; !is_move(item));
     }
+    Ok(())
+}
+
+fn is_copy(item: &Item) -> bool {
+    matches!(
+        item,
+        Item::Moves {
+            way: Way::Copy { .. },
+            ..
+        }
+    )
+}
+
+/// A drop spoils the register in which it takes its argument. A value that is read on behind it has a copy in another one, and comes
+/// to no slot.
+#[test]
+fn a_value_is_read_on_behind_a_drop(rt: HostRuntime) -> Result<(), Fail> {
+    let asm = drop_and_return(rt.alloc())?;
+    let placed = assign(rt.alloc(), &asm)?;
+    assert!(rt; valid(&asm, &placed));
+    assert_eq!(rt; placed.functions().len(), 1);
+    let code = &placed.functions()[0].code;
+    assert_eq!(rt; code.len(), 4);
+    assert!(rt; is_copy(&code[0]));
+    assert!(rt; is_copy(&code[2]));
     Ok(())
 }

@@ -14,7 +14,7 @@ use Rattle.cell_heap.proofs.Frames.{cell-inside}
 use Rattle.cell_heap.proofs.CellsAfterDrop.{IsLeft-counted, IsLeft-opened, IsLeft-was_counted, IsLeft-was_waiting}
 use Rattle.cell_heap.proofs.WaitChains.{AreCells-counted, AreCells-lower, AreCells-wait, AreCells-waiting, AreCells-opened, AreFields-body, AreFields-first, IsWaitChain-below, SameWords-first}
 use Rattle.cell_heap.proofs.FieldMasks.{chosen-none, chosen-set, chosen-clear, half-below, mask-none}
-use Rattle.cell_runtime.proofs.DropRows.{drop_code, row_odd, row_lower, row_wait, row_scanned, row_reference, row_skip, row_done, row_open}
+use Rattle.cell_runtime.proofs.DropRows.{drop_code, row_odd, row_lower, row_wait, row_scanned, row_reference, row_skip, row_done, row_some, row_open}
 use Rattle.cell_runtime.proofs.DropStates.{IsQuiet, IsQuiet-then, count-stored, kept-5, kept-8, kept-10, kept-11, kept-12, kept-13, IsWithin, IsScanning, first-use, field-use, Comes, Comes-from}
 
 -- ---- what the next fields come to
@@ -94,7 +94,7 @@ two_less most = omega arith
 same_most : (most : ℕ) → 8 + most ≤ 8 + most
 same_most most = omega arith
 
-same_opened : (most : ℕ) → 9 + most ≤ 9 + most
+same_opened : (most : ℕ) → 1 + (8 + most) ≤ 9 + most
 same_opened most = omega arith
 
 not_first : (pool : Pool) (x : ℕ) → 0 < pool.first → IsCell pool x → x ≢ 0
@@ -352,10 +352,10 @@ module _ (code : Code) (at : ℕ) (has : Has code at drop_code) (fits : at + 112
       }
 
   -- the first one is freed, and its fields are the next ones
-  pub pop-open : (heap end : Heap) (waits frees left_free : List ℕ) (x most : ℕ) (body : Body) (s : Processor) → s.pc ≡ at + 72 → ((y : ℕ) (other : Body) → first y ≢ waiting other) → IsWithin code pool first heap (x ∷ waits) frees s → heap x ≡ waiting body
+  pub open-first : (heap end : Heap) (waits frees left_free : List ℕ) (x most : ℕ) (body : Body) (s : Processor) → s.pc ≡ at + 80 → ((y : ℕ) (other : Body) → first y ≢ waiting other) → IsWithin code pool first heap (x ∷ waits) frees s → heap x ≡ waiting body
       → ((t : Processor) → t.pc ≡ at + 32 → IsWithin code pool first (changed x free heap) waits (x ∷ frees) t → IsScanning pool body.mask body.fields t → Comes code pool first end left_free most t)
-      → Comes code pool first end left_free (9 + most) s
-  pop-open heap end waits frees left_free x most body s here settled within is goes_on =
+      → Comes code pool first end left_free (8 + most) s
+  open-first heap end waits frees left_free x most body s here settled within is goes_on =
       let shows = AreCells-waiting within.cells body is in
       let cell = shows.0 in
       let has_body = shows.1 in
@@ -367,13 +367,13 @@ module _ (code : Code) (at : ℕ) (has : Has code at drop_code) (fits : at + 112
       let header : word (with_number x 4 f s.memory) (x + 4) ≡ h = (SameWords-first s.memory x f).same (x + 4) (omega arith) (omega arith) ∙ has_body.header in
       let n_below = IsWaitChain-below usable within.cells.shown n waits within.cells.wait_chain.3 in
       let inside = cell-inside pool x usable.aligned cell in
-      let leads = row_open code at has fits at_whole s x f n h body.mask within.stands here within.cells.wait_chain.0 (not_first pool x usable.some cell) refl (first-use within x cell) cell.aligned (fields_below pool x inside usable.below)
+      let leads = row_open code at has fits at_whole s x f n h body.mask within.stands here within.cells.wait_chain.0 refl (first-use within x cell) cell.aligned (fields_below pool x inside usable.below)
       (usable.loads (x + 4) (header_behind pool x cell) (header_inside pool x inside)) refl n_below header (mask_of body.tag body.mask has_body.tag) in
       let t = record s {
         registers = put 13 n (put 11 (x + 8) (put 12 body.mask (put 12 h (put 8 x (put 5 n s.registers)))));
         memory = with_number x 4 f s.memory;
         pc = at + 32;
-        executed = s.executed + 1 + 1 + 1 + 1 + 1 + 1 + 1 + 1 + 1;
+        executed = s.executed + 1 + 1 + 1 + 1 + 1 + 1 + 1 + 1;
       } in
       let quiet : IsQuiet first s t = record {
         registers = λ r kept.
@@ -399,4 +399,20 @@ module _ (code : Code) (at : ℕ) (has : Has code at drop_code) (fits : at + 112
         below = has_body.mask;
         fields = AreFields-first pool s.memory x f cell.aligned (x + 8) body.fields (AreFields-body pool s.memory x body usable.aligned cell has_body);
       } in
-      Comes-from leads quiet refl (same_opened most) (goes_on t refl there scans)
+      Comes-from leads quiet refl (same_most most) (goes_on t refl there scans)
+
+  -- where one waits
+  pub pop-open : (heap end : Heap) (waits frees left_free : List ℕ) (x most : ℕ) (body : Body) (s : Processor) → s.pc ≡ at + 72 → ((y : ℕ) (other : Body) → first y ≢ waiting other) → IsWithin code pool first heap (x ∷ waits) frees s → heap x ≡ waiting body
+      → ((t : Processor) → t.pc ≡ at + 32 → IsWithin code pool first (changed x free heap) waits (x ∷ frees) t → IsScanning pool body.mask body.fields t → Comes code pool first end left_free most t)
+      → Comes code pool first end left_free (9 + most) s
+  pop-open heap end waits frees left_free x most body s here settled within is goes_on =
+      let cell = (AreCells-waiting within.cells body is).0 in
+      let leads = row_some code at has fits at_whole s x within.stands here within.cells.wait_chain.0 (not_first pool x within.cells.usable.some cell) in
+      let there : IsWithin code pool first heap (x ∷ waits) frees (stepped (at + 80) s) = record {
+        stands = LeadsIn-stands leads within.stands;
+        cells = within.cells;
+        heap_left = within.heap_left;
+        way_back = record { aligned = within.way_back.aligned; in_range = within.way_back.in_range };
+      } in
+      Comes-from leads (record { registers = λ r kept. refl; parts = refl; trace = refl; left = refl; others = λ r none. refl }) refl (same_opened most)
+      (open-first heap end waits frees left_free x most body (stepped (at + 80) s) refl settled there is goes_on)

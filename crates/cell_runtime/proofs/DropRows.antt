@@ -37,6 +37,9 @@ forward_36 = distance 0 9
 abbrev pub forward_40 : BranchOffset
 forward_40 = distance 0 10
 
+abbrev pub forward_76 : BranchOffset
+forward_76 = distance 0 19
+
 abbrev pub back_24 : BranchOffset
 back_24 = distance 6 0
 
@@ -51,8 +54,8 @@ back_76 = distance 19 0
 
 abbrev pub drop_code : List Instr
 drop_code =
-    Addi x13 x0 imm_0
-    ∷ Addi x12 x0 imm_0
+    Addi x13 x10 imm_0
+    ∷ Beq x0 x0 forward_76
     ∷ Andi x5 x10 imm_1
     ∷ Bne x5 x0 forward_20
     ∷ Lw x5 x10 imm_0
@@ -123,12 +126,14 @@ word_below : (s : Processor) (at : ℕ) → MayUse s at → at < 2 ^ 32
 word_below s at use_it = let below = use_it.below in omega arith
 
 module _ (code : Code) (at : ℕ) (has : Has code at drop_code) (fits : at + 112 ≤ 2 ^ 32) (at_whole : at % 4 ≡ 0) where
-  -- x13 and x12 become 0
-  pub row_start : (s : Processor) → Stands code s → s.pc ≡ at → LeadsIn code 2 s (record s { registers = put 12 0 (put 13 0 s.registers); pc = at + 8; executed = s.executed + 1 + 1 })
-  row_start s stands here =
+  -- the cell in x10 is the chain of waiting cells
+  pub row_start : (s : Processor) (x : ℕ) → Stands code s → s.pc ≡ at → value s.registers 10 ≡ x → x < 2 ^ 32
+      → LeadsIn code 2 s (record s { registers = put 13 x s.registers; pc = at + 80; executed = s.executed + 1 + 1 })
+  row_start s x stands here x_is below =
       let pc_0 : s.pc ≡ at + 0 = omega arith in
-      let a = leads-addi stands {v = 0} (ap code pc_0 ∙ Has-get code at drop_code 0 _ has refl) refl (ap (λ p. sum_word p 4) pc_0 ∙ to_next at 0 fits (lit≤ tt)) in
-      then_one stands a (λ on. leads-addi on {v = 0} (Has-get code at drop_code 1 _ has refl) refl (to_next at 4 fits (lit≤ tt)))
+      let to_x : sum_word (value s.registers 10) 0 ≡ x = sum_none _ x x_is below in
+      let a = leads-addi stands {v = x} (ap code pc_0 ∙ Has-get code at drop_code 0 _ has refl) to_x (ap (λ p. sum_word p 4) pc_0 ∙ to_next at 0 fits (lit≤ tt)) in
+      then_one stands a (λ on. leads-beq_taken on (Has-get code at drop_code 1 _ has refl) refl (to_ahead at 4 76 fits (lit≤ tt)) (whole at 80 at_whole refl))
 
   -- an odd reference
   pub row_odd : (s : Processor) (x : ℕ) → Stands code s → s.pc ≡ at + 8 → value s.registers 10 ≡ x → x % 2 ≡ 1 → LeadsIn code 2 s (record s { registers = put 5 1 s.registers; pc = at + 32; executed = s.executed + 1 + 1 })
@@ -228,22 +233,26 @@ module _ (code : Code) (at : ℕ) (has : Has code at drop_code) (fits : at + 112
       let a = leads-bne_not_taken stands (ap code here ∙ Has-get code at drop_code 18 _ has refl) none (ap (λ p. sum_word p 4) here ∙ to_next at 72 fits (lit≤ tt)) in
       leads-back _ stands a (Has-get code at drop_code 19 _ has refl) refl way_whole way_below
 
+  -- a cell waits
+  pub row_some : (s : Processor) (a : ℕ) → Stands code s → s.pc ≡ at + 72 → value s.registers 13 ≡ a → a ≢ 0 → LeadsIn code 1 s (stepped (at + 80) s)
+  row_some s a stands here a_is some =
+      leads-bne_taken stands (ap code here ∙ Has-get code at drop_code 18 _ has refl) (λ none. some (sym a_is ∙ none)) (ap (λ p. sum_word p 8) here ∙ to_ahead at 72 8 fits (lit≤ tt)) (whole at 80 at_whole refl)
+
   -- the first waiting cell goes to the free ones, and its fields are the next ones
-  pub row_open : (s : Processor) (a f n h m : ℕ) → Stands code s → s.pc ≡ at + 72 → value s.registers 13 ≡ a → a ≢ 0 → value s.registers 8 ≡ f → MayUse s a → a % 32 ≡ 0 → a + 8 < 2 ^ 32 → can_load s.parts (a + 4) 4 ≡ true
+  pub row_open : (s : Processor) (a f n h m : ℕ) → Stands code s → s.pc ≡ at + 80 → value s.registers 13 ≡ a → value s.registers 8 ≡ f → MayUse s a → a % 32 ≡ 0 → a + 8 < 2 ^ 32 → can_load s.parts (a + 4) 4 ≡ true
       → word s.memory a ≡ n → n < 2 ^ 32 → word (with_number a 4 f s.memory) (a + 4) ≡ h → h / 256 ≡ m
-      → LeadsIn code 9 s (record s {
+      → LeadsIn code 8 s (record s {
         registers = put 13 n (put 11 (a + 8) (put 12 m (put 12 h (put 8 a (put 5 n s.registers)))));
         memory = with_number a 4 f s.memory;
         pc = at + 32;
-        executed = s.executed + 1 + 1 + 1 + 1 + 1 + 1 + 1 + 1 + 1;
+        executed = s.executed + 1 + 1 + 1 + 1 + 1 + 1 + 1 + 1;
       })
-  row_open s x f n h m stands here x_is some f_is use_it x_whole below loads n_is n_below h_is m_is =
+  row_open s x f n h m stands here x_is f_is use_it x_whole below loads n_is n_below h_is m_is =
       let to_x : sum_word (value s.registers 13) 0 ≡ x = sum_none _ x x_is (word_below s x use_it) in
       let to_header : sum_word (value s.registers 13) 4 ≡ x + 4 = sum_small _ x 4 x_is use_it.below in
       let to_fields : sum_word (value s.registers 13) 8 ≡ x + 8 = sum_small _ x 8 x_is below in
       let header_whole : (x + 4) % 4 ≡ 0 = whole x 4 use_it.aligned refl in
-      let a = leads-bne_taken stands (ap code here ∙ Has-get code at drop_code 18 _ has refl) (λ none. some (sym x_is ∙ none)) (ap (λ p. sum_word p 8) here ∙ to_ahead at 72 8 fits (lit≤ tt)) (whole at 80 at_whole refl) in
-      let b = then_one stands a (λ on. leads-lw on (Has-get code at drop_code 20 _ has refl) to_x use_it.aligned use_it.loads n_is (to_next at 80 fits (lit≤ tt))) in
+      let b = leads-lw stands (ap code here ∙ Has-get code at drop_code 20 _ has refl) to_x use_it.aligned use_it.loads n_is (ap (λ p. sum_word p 4) here ∙ to_next at 80 fits (lit≤ tt)) in
       let c = then_one stands b (λ on. leads-sw on (Has-get code at drop_code 21 _ has refl) to_x f_is use_it.aligned use_it.stores (to_next at 84 fits (lit≤ tt))) in
       let d = then_one stands c (λ on. leads-addi on (Has-get code at drop_code 22 _ has refl) to_x (to_next at 88 fits (lit≤ tt))) in
       let e = then_one stands d (λ on. leads-lw on (Has-get code at drop_code 23 _ has refl) to_header header_whole loads h_is (to_next at 92 fits (lit≤ tt))) in

@@ -36,8 +36,8 @@ take_lines =
 
 abbrev pub drop_lines : List Native
 drop_lines =
-    Instruction (Addi x13 x0 imm_0)
-    ∷ Instruction (Addi x12 x0 imm_0)
+    Instruction (Addi x13 x10 imm_0)
+    ∷ Branch Equal x0 x0 (Local 4)
     ∷ Label (Local 0)
     ∷ Instruction (Andi x5 x10 imm_1)
     ∷ Branch NotEqual x5 x0 (Local 1)

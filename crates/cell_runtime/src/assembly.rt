@@ -111,6 +111,7 @@ fn branch(condition: Condition, left: Register, right: Register, label: u32) -> 
     }
 }
 
+/// Branches to a label of the routine's own, as `bne` and `bge` do.
 pub fn beq(rs1: Register, rs2: Register, label: u32) -> Native
     ensures { result ≡ Native.Branch Condition.Equal rs1 rs2 (Symbol.Local label) }
 {

@@ -76,20 +76,21 @@ const LAST: u32 = 2;
 /// In `give_up`: the next waiting cell is opened, or all is done.
 const POP: u32 = 3;
 
-/// In `give_up`: it is freed and opened.
+/// In `give_up`: the first waiting cell is freed and opened.
 const OPEN: u32 = 4;
 
-/// Gives up the reference in `a0`, and all that it was the last to hold.
+/// Frees the cell in `a0`, whose count was lowered to 0, and gives up all that it was the last to hold.
 ///
 /// A cell whose count reaches zero waits, in a chain through its own first word, until its references are given up; it
 /// stands on the chain of free cells before that. So no stack is used. `a1` and `a2` are the address of the next field
-/// of an opened cell and the mask of the fields from there on, `a3` is the chain of waiting cells.
+/// of an opened cell and the mask of the fields from there on, `a3` is the chain of waiting cells. The cell in `a0` is
+/// that chain at first: its count of 0 is the end of it.
 pub fn give_up() -> [Native; 33]
     ensures { Makes (linked result) 28 0 (λ memory. IsDrop) }
 {
     [
-        set(Register::A3, 0),
-        set(Register::A2, 0),
+        addi(Register::A3, Register::A0, small(0)),
+        beq(Register::ZERO, Register::ZERO, OPEN),
         label(GIVE),
         andi(Register::T0, Register::A0, small(1)),
         bne(Register::T0, Register::ZERO, NEXT),

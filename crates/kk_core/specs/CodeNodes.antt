@@ -99,7 +99,7 @@ abbrev mutual
 
 -- the most of a reference more, or of one that is given up
 abbrev pub reference_length : ℕ
-reference_length = 7
+reference_length = 9
 
 -- of an end that gives a value
 abbrev pub give_words : ℕ
@@ -146,7 +146,7 @@ abbrev pub opening_words : ℕ
 opening_words = 43
 
 abbrev pub opened_field_words : ℕ
-opened_field_words = 15
+opened_field_words = 17
 
 -- of a drop of each parameter
 abbrev pub drops_words : ℕ
@@ -185,7 +185,7 @@ abbrev mutual
 
 -- the most words of a node, but for those that grow with pairs of nodes
 abbrev pub most_node_words : ℕ
-most_node_words = 119
+most_node_words = 116
 
 -- and the most for each pair of nodes
 abbrev pub most_pair_words : ℕ

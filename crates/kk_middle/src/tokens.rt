@@ -45,8 +45,8 @@ pub fn compiled_tokens_can_be_lowered()
     respecialised_code_can_be_lowered();
 }
 
-/// Each function of a compiled program with its tokens takes few words of an image, by the nodes of the body of its instance: 119
-/// for each, four for each pair of them, and 56. It is a law, and does nothing.
+/// Each function of a compiled program with its tokens takes few words of an image, by the nodes of the body of its instance: 116
+/// for each, four for each pair of them, and 72. It is a law, and does nothing.
 pub fn compiled_programs_take_few_words()
     ensures { (typed : Typed) (given : Ground) (counted : Counted) (made : Tokened)
         → IsChecked (program_tree typed.program) (typings_of typed) → AreGiven typed given

@@ -212,5 +212,5 @@ code = use_of 0 (case 0 (chooses 0 ∷ []) arms)
 pub stands_for_seven : (pattern_nodes [] false code ≡ 5) × (other_nodes code ≡ 2) × (nodes_of body ≡ 10)
 stands_for_seven = (refl, refl, refl)
 
-pub takes_few : plain_words code ≡ 530
+pub takes_few : plain_words code ≡ 558
 takes_few = refl

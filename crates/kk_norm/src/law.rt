@@ -66,7 +66,7 @@ pub fn core_forms_open_few_cells()
         → (nodes : ℕ) → greatest_nodes program ≤ nodes → UnpackAtMost (nodes - 1) code }
 {}
 
-/// Each function of a core form stands for the nodes of its body: it has no more of them, its forms take at most 119 words of an
+/// Each function of a core form stands for the nodes of its body: it has no more of them, its forms take at most 116 words of an
 /// image for each, but for those that grow with pairs of nodes, the tests of its cases are brief, and its openings have fields. It
 /// is a law, and does nothing.
 pub fn core_forms_stand_for_their_nodes()

@@ -27,7 +27,7 @@ use Rattle.std.proofs.Common.{
 }
 use Rattle.kk_counted.specs.Lowerable.{AreBelow, bound_list}
 use Rattle.std.specs.Prelude.{filter, if◌then◌else◌}
-use Rattle.std.proofs.lemmas.Bool.{eq-eqb, false≢true, or_left, or_right}
+use Rattle.std.proofs.lemmas.Bool.{eq-eqb, or_left, or_right}
 use Rattle.std.proofs.lemmas.List.Elements.{All-nil}
 use Rattle.kk_core.specs.Sizes.{AreBound}
 use Rattle.kk_syntax.specs.Shapes.{is_among as is_bound}
@@ -37,7 +37,7 @@ use Rattle.rv_isa.specs.declared.asm.Operation.TheVariants as Op
 use Rattle.rv_isa.specs.declared.routine.Routine.TheVariants.{Take, Drop}
 use Rattle.rv_isa.specs.AsmCode.{Line}
 use Rattle.rv_isa.specs.WellFormed.{most_values, IsSpent, IsLineFormed}
-use Rattle.rv_lower.specs.Lines.{sets, copies_to, acts}
+use Rattle.rv_lower.specs.Lines.{sets, acts}
 use Rattle.rv_lower.proofs.WellFormedness.{
   Each,
   Readable,
@@ -48,28 +48,34 @@ use Rattle.rv_lower.proofs.WellFormedness.{
   all_each,
   alive_line,
   to_variable,
-  to_temporary,
   variable_left,
-  good_hands,
   readable_small,
   readable_more,
-  none_some,
   some_same,
   most_temporaries,
   formed_effect,
 }
-use Rattle.rv_lower.proofs.Operations.{Leads, leads_then, leads_weaker, next_temporary, only_bound}
+use Rattle.rv_lower.proofs.Operations.{Leads, leads_then, leads_weaker, next_temporary}
 use Rattle.rv_cells.specs.CellLines.{Loads, Stores, AllLoads, AllStores, StoresIf, SomeStores, dup_lines, drop_lines, dups_lines, drops_lines}
 use Rattle.rv_cells.specs.CellLines.{SetIf, SomeWords, ConstructLines}
 use Rattle.rv_cells.specs.Layout.{first_field}
 
--- an operation that gives no value
+-- an operation that gives no value, and a drop
 good_effect : (B : ℕ → Type 0) (operation : Operation) (args : List ℕ) (rest : List Line) → length args ≤ 2 → Each B args
     → ((v : ℕ) → B v → v < most_values) → Good B rest → Good B (acts (Compute operation) args ∷ rest)
 good_effect B operation args rest few each small good = record {
   formed = formed_more (acts (Compute operation) args) rest
       (formed_effect (Compute operation) args rest tt few refl (all_each B (λ v. v < most_values) args small each)) tt good.formed;
   alive = alive_line B (acts (Compute operation) args) rest each (λ v other is. good.alive v is);
+}
+
+good_drop : (B : ℕ → Type 0) (x : ℕ) (rest : List Line) → B x → ((v : ℕ) → B v → v < most_values) → Good B rest
+    → Good B (acts (Routine Drop) (x ∷ []) ∷ rest)
+good_drop B x rest is small good = record {
+  formed = formed_more (acts (Routine Drop) (x ∷ [])) rest
+      (formed_effect (Routine Drop) (x ∷ []) rest tt (omega arith) refl
+      (all_each B (λ v. v < most_values) (x ∷ []) small (is, tt))) tt good.formed;
+  alive = alive_line B (acts (Routine Drop) (x ∷ [])) rest (is, tt) (λ v other is. good.alive v is);
 }
 
 module _ (base : ℕ) where
@@ -183,30 +189,20 @@ module _ (base : ℕ) where
           (record { no_label = λ l. tt; few = omega arith; good = λ rest good. good })
 
   pub drop_leads : (bound : List ℕ) (holds : ℕ → Bool) (x : ℕ) → HasRoom base bound → is_bound bound x ≡ true
-      → Leads (Bound bound) (Bound bound) 2 (drop_lines base holds x)
+      → Leads (Bound bound) (Bound bound) 1 (drop_lines holds x)
   drop_leads bound holds x has is = by (holds x) refl
     where
-      given : List Line
-      given = copies_to x base ∷ acts (Routine Drop) (base ∷ []) ∷ []
-
-      handed : Leads (Bound bound) (Bound bound) 2 (copies_to x base ∷ acts (Routine Drop) (base ∷ []) ∷ [])
-      handed = record {
-        no_label = λ l. (refl, (refl, tt));
+      dropped : Leads (Bound bound) (Bound bound) 1 (acts (Routine Drop) (x ∷ []) ∷ [])
+      dropped = record {
+        no_label = λ l. (refl, tt);
         few = omega arith;
-        good = λ rest good. to_temporary base base bound Op.Mv (x ∷ []) (acts (Routine Drop) (base ∷ []) ∷ rest) has (omega arith)
-            refl
-            (omega arith) (inl is, tt)
-            (good_hands base bound (x ∷ []) (Routine Drop) None rest has tt tt (omega arith) (omega arith)
-            (λ is. absurd (false≢true is))
-            (λ v is. absurd (none_some is)) (λ v other is. only_bound base bound has v (good.alive v is)) good.formed);
+        good = λ rest good. good_drop (Bound bound) x rest (inl is) (readable_small base base bound has (omega arith)) good;
       }
 
-      by : (h : Bool) → holds x ≡ h → Leads (Bound bound) (Bound bound) 2 (drop_lines base holds x)
-      by true same = subst (λ h. Leads (Bound bound) (Bound bound) 2
-          (if h then copies_to x base ∷ acts (Routine Drop) (base ∷ []) ∷ [] else []))
-          (sym same) handed
-      by false same = subst (λ h. Leads (Bound bound) (Bound bound) 2
-          (if h then copies_to x base ∷ acts (Routine Drop) (base ∷ []) ∷ [] else []))
+      by : (h : Bool) → holds x ≡ h → Leads (Bound bound) (Bound bound) 1 (drop_lines holds x)
+      by true same = subst (λ h. Leads (Bound bound) (Bound bound) 1 (if h then acts (Routine Drop) (x ∷ []) ∷ [] else []))
+          (sym same) dropped
+      by false same = subst (λ h. Leads (Bound bound) (Bound bound) 1 (if h then acts (Routine Drop) (x ∷ []) ∷ [] else []))
           (sym same) (record { no_label = λ l. tt; few = omega arith; good = λ rest good. good })
 
   pub dups_lead : (bound : List ℕ) (holds : ℕ → Bool) (xs : List ℕ) → HasRoom base bound → AreBound bound xs
@@ -220,12 +216,12 @@ module _ (base : ℕ) where
       (dup_leads bound holds x has are.0) (dups_lead bound holds xs has are.1))
 
   pub drops_lead : (bound : List ℕ) (holds : ℕ → Bool) (xs : List ℕ) → HasRoom base bound → AreBound bound xs
-      → Leads (Bound bound) (Bound bound) (2 * length xs) (drops_lines base holds xs)
+      → Leads (Bound bound) (Bound bound) (length xs) (drops_lines holds xs)
   drops_lead bound holds [] has are = record { no_label = λ l. tt; few = omega arith; good = λ rest good. good }
   drops_lead bound holds (x ∷ xs) has are =
-      leads_weaker (Bound bound) (Bound bound) (Bound bound) (Bound bound) (2 + 2 * length xs) (2 * suc (length xs))
-      (drops_lines base holds (x ∷ xs)) (λ v is. is) (λ v is. is) (omega arith)
-      (leads_then (Bound bound) (Bound bound) (Bound bound) 2 (2 * length xs) (drop_lines base holds x) (drops_lines base holds xs)
+      leads_weaker (Bound bound) (Bound bound) (Bound bound) (Bound bound) (1 + length xs) (suc (length xs))
+      (drops_lines holds (x ∷ xs)) (λ v is. is) (λ v is. is) (omega arith)
+      (leads_then (Bound bound) (Bound bound) (Bound bound) 1 (length xs) (drop_lines holds x) (drops_lines holds xs)
       (drop_leads bound holds x has are.0) (drops_lead bound holds xs has are.1))
 
   -- a cell is taken

@@ -30,7 +30,7 @@ use Rattle.rv_isa.specs.declared.asm.Condition.TheVariants.{GreaterEqual as AtLe
 use Rattle.rv_isa.specs.declared.routine.Routine.TheVariants.{Drop}
 use Rattle.rv_isa.specs.AsmCode.{Line}
 use Rattle.cell_runtime.specs.Operations.{compares}
-use Rattle.rv_lower.specs.Lines.{copies_to, acts}
+use Rattle.rv_lower.specs.Lines.{acts}
 use Rattle.rv_lower.specs.Lowered.{Goal}
 use Rattle.rv_lower.proofs.Words.{same_word, at_most_follows}
 use Rattle.rv_cells.specs.Layout.{Layout, word_in, FitsField}
@@ -326,8 +326,8 @@ module _ (setting : Setting) (variables : ℕ) where
       record { own = lines; own_is = refl; are = are; stands = λ root before stands. stands }
   drops_lines branch goal low high (y ∷ ys) code lines plain are =
       let later = drops_lines branch goal low high ys code are.0 plain.1 are.1 in
-      let none : drop_lines setting.base setting.holds y ≡ []
-      = ap (λ (b : Bool). if b then copies_to y setting.base ∷ acts (Calls Drop) (setting.base ∷ []) ∷ [] else []) plain.0 in
+      let none : drop_lines setting.holds y ≡ []
+      = ap (λ (b : Bool). if b then acts (Calls Drop) (y ∷ []) ∷ [] else []) plain.0 in
       record {
         own = later.own;
         own_is = are.2 ∙ ap (λ (own : List Line). own ++ are.0) none ∙ later.own_is;
@@ -383,8 +383,8 @@ module _ (setting : Setting) (variables : ℕ) where
       → StandsAt root before (tree_in setting variables goal low (Tokened.drop x rest) own high lines)
       → StandsAt root before (tree_in setting variables goal low rest own high are))
   given_up goal low high x rest own plain lines =
-      let none : drop_lines setting.base setting.holds x ≡ []
-      = ap (λ (b : Bool). if b then copies_to x setting.base ∷ acts (Calls Drop) (setting.base ∷ []) ∷ [] else []) plain in
+      let none : drop_lines setting.holds x ≡ []
+      = ap (λ (b : Bool). if b then acts (Calls Drop) (x ∷ []) ∷ [] else []) plain in
       let same : lines.0 ≡ own = sym (lines.2 ∙ ap (λ (ls : List Line). ls ++ lines.0) none) in (
         subst (λ (ls : List Line). CodeLines setting variables goal low rest ls high) same lines.1,
         λ root before stands. subst (λ t. StandsAt root before t) (sym (tree_at goal low high rest lines.0 own same lines.1))

@@ -144,7 +144,7 @@ module _ (known : Known) (o : CountOpening known) where
   loads = uniques.1
 
   abbrev pub drops : List Line
-  drops = drops_lines known.base known.holds (others_of used fields)
+  drops = drops_lines known.holds (others_of used fields)
 
   abbrev pub dups : List Line
   dups = dups_lines known.holds (filter (is_among used) fields)
@@ -315,7 +315,7 @@ module _ (known : Known) (o : CountOpening known) where
 
     pub record Emptied (frame : Frame Line) (owners : ℕ → Owner) (cells : Cells) : Type 0 where
       pub comes : Comes (3 * most_moves + 7 + row_cost fields (most_moves + 2)
-          + row_cost (others_of used fields) (2 * most_moves + 16)) (ends ++ (for_shared ++ ending)) s.frame.cells frame owners
+          + row_cost (others_of used fields) (most_moves + 14)) (ends ++ (for_shared ++ ending)) s.frame.cells frame owners
           cells
       pub words : ℕ → Option ℕ
       pub hand : owners at ≡ in_hand words
@@ -336,9 +336,9 @@ module _ (known : Known) (o : CountOpening known) where
         let dropped = drops_did known behind_drops fs others two next here_two
         (bound_fields (λ y. not (is_among used y)) fields s.bound)
         (ap (λ vs. drop_all vs (set_count named.at 0 s.heap)) values ∙ given) in
-        let frame = dropped.0 in
-        let did = dropped.3 in
-        let world = with_cells s.world dropped.2 in
+        let frame = two.frame in
+        let did = dropped.2 in
+        let world = with_cells s.world dropped.1 in
         let here_at : with_owner at (in_hand stands.words) s.owners at ≡ in_hand stands.words =
         chosen_same at at (in_hand stands.words) s.owners refl in
         let test : nat_eq (count_at s.heap named.at) 1 ≡ true = grind (arith, nat_tests) in
@@ -369,8 +369,8 @@ module _ (known : Known) (o : CountOpening known) where
         let cheap_read = read.within in
         let cheap = did.within in (
           frame,
+          dropped.0,
           dropped.1,
-          dropped.2,
           record {
             comes = record {
               cost = ((moves + 2) + (moves + 2)) + ((moves + 3) + (read.cost + did.cost));

@@ -422,7 +422,7 @@ abbrev main_holds : ℕ → Bool
 main_holds x = is_among (0 ∷ 2 ∷ 4 ∷ 5 ∷ []) x
 
 abbrev main_end : List Line
-main_end = copies_to 5 7 ∷ acts (Calls Drop) (7 ∷ []) ∷ sets 1 6 ∷ acts Return (6 ∷ []) ∷ []
+main_end = acts (Calls Drop) (5 ∷ []) ∷ sets 1 6 ∷ acts Return (6 ∷ []) ∷ []
 
 abbrev main_call : List Line
 main_call = copies_to 4 7 ∷ record { action = Call 0; args = 7 ∷ []; into = Some 5 } ∷ main_end

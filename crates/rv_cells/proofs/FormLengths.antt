@@ -87,10 +87,10 @@ module _ (holds : ℕ → Bool) where
       by true = omega arith
       by false = omega arith
 
-  pub drop_length : (base x : ℕ) → code_length (drop_lines base holds x) ≤ reference_length
-  drop_length base x = by (holds x)
+  pub drop_length : (x : ℕ) → code_length (drop_lines holds x) ≤ reference_length
+  drop_length x = by (holds x)
     where
-      by : (t : Bool) → code_length (drop_lines base (λ y. t) x) ≤ reference_length
+      by : (t : Bool) → code_length (drop_lines (λ y. t) x) ≤ reference_length
       by true = omega arith
       by false = omega arith
 
@@ -101,12 +101,12 @@ module _ (holds : ℕ → Bool) where
       let one = dup_length x in
       let more = dups_length xs in omega (arith, whole, one, more)
 
-  pub drops_length : (base : ℕ) (xs : List ℕ) → code_length (drops_lines base holds xs) ≤ reference_length * length xs
-  drops_length base [] = omega arith
-  drops_length base (x ∷ xs) =
-      let whole = lines_append (drop_lines base holds x) (drops_lines base holds xs) in
-      let one = drop_length base x in
-      let more = drops_length base xs in omega (arith, whole, one, more)
+  pub drops_length : (xs : List ℕ) → code_length (drops_lines holds xs) ≤ reference_length * length xs
+  drops_length [] = omega arith
+  drops_length (x ∷ xs) =
+      let whole = lines_append (drop_lines holds x) (drops_lines holds xs) in
+      let one = drop_length x in
+      let more = drops_length xs in omega (arith, whole, one, more)
 
   -- ---- forms that touch cells
 
@@ -117,7 +117,7 @@ module _ (holds : ℕ → Bool) where
   count_length base shared behind x fields used ends begins lines is =
       let kept : List ℕ = filter (is_among used) fields in
       let others : List ℕ = filter (λ y. not (is_among used y)) fields in
-      let dropped : List Line = drops_lines base holds others in
+      let dropped : List Line = drops_lines holds others in
       let dupped : List Line = dups_lines holds kept in
       let lowered : List Line = is.2 ∷ computes (Op.Immediate Addi is.3) (base ∷ []) base ∷ is.4 ∷ dupped in
       let alone : List Line = is.1 ++ (dropped ++ ends) in
@@ -134,7 +134,7 @@ module _ (holds : ℕ → Bool) where
       let loads = loads_length x 2 fields is.1 is.6 in
       let count = load_length x 0 base is.2 is.7 in
       let store = store_length x 0 base is.4 is.9 in
-      let drops = drops_length base others in
+      let drops = drops_length others in
       let dups = dups_length kept in
       let all = filter_apart (is_among used) fields in
       omega (
@@ -157,7 +157,7 @@ module _ (holds : ℕ → Bool) where
 
   pub token_unique_length : (base shared behind filled x : ℕ) (fields used : List ℕ) (token : ℕ) (into : Option ℕ)
       (lines : List Line) → TokenUniqueLines base holds shared behind filled x fields used token into lines
-      → code_length lines ≤ 38 + 15 * length fields
+      → code_length lines ≤ 38 + opened_field_words * length fields
   token_unique_length base shared behind filled x fields used token None lines is =
       let own = count_length base shared behind x fields used (token_ends None x token behind filled) (sets 0 token ∷ []) lines
       is in

@@ -83,7 +83,7 @@ abbrev pub lines_before_entry : (base : ℕ) (holds : ℕ → Bool) (shared behi
     Line
 lines_before_entry base holds shared behind filled x fields used token into lines is =
     is.0 ∷ sets 1 (base + 1) ∷ acts (Branch NotEqual shared) (base ∷ (base + 1) ∷ [])
-    ∷ (is.1 ++ (drops_lines base holds (filter (λ y. not (is_among used y)) fields) ++ (copies_to x token ∷ [])))
+    ∷ (is.1 ++ (drops_lines holds (filter (λ y. not (is_among used y)) fields) ++ (copies_to x token ∷ [])))
 
 module _ (setting : Setting) (variables : ℕ) where
   abbrev mutual
@@ -115,7 +115,7 @@ module _ (setting : Setting) (variables : ℕ) where
     parts_behind left goal low (Tokened.dup x rest) own high lines =
         part (0 ∷ []) (dup_lines setting.holds x) (tree rest lines.0 (parts_behind None goal low rest lines.0 high lines.1)) no_part
     parts_behind left goal low (Tokened.drop x rest) own high lines =
-        part (0 ∷ []) (drop_lines setting.base setting.holds x)
+        part (0 ∷ []) (drop_lines setting.holds x)
         (tree rest lines.0 (parts_behind left goal low rest lines.0 high lines.1)) no_part
     parts_behind left goal low (Tokened.fill x y c first arguments kept others rest) own high lines =
         part (0 ∷ []) lines.0 (tree rest lines.1 (parts_behind None goal (low + 1) rest lines.1 high lines.3)) no_part
@@ -173,7 +173,7 @@ pub entry_there : (base : ℕ) (holds : ℕ → Bool) (shared behind filled x : 
 entry_there base holds shared behind filled x fields used token into lines is = (
   _,
   is.10 ∙ ap (λ ls. is.0 ∷ sets 1 (base + 1) ∷ acts (Branch NotEqual shared) (base ∷ (base + 1) ∷ []) ∷ ls)
-      (entry_passed is.1 (drops_lines base holds (filter (λ y. not (is_among used y)) fields)) (entry_lines token into filled) _
+      (entry_passed is.1 (drops_lines holds (filter (λ y. not (is_among used y)) fields)) (entry_lines token into filled) _
       (copies_to x token)),
 )
 

@@ -14,7 +14,7 @@ use Rattle.rv_isa.specs.declared.routine.Routine.TheVariants.{Take, Drop}
 use Rattle.rv_isa.specs.AsmCode.{Line}
 use Rattle.rv_isa.specs.ValueBounds.{AreValuesBelow, IsLineBelow, AreLinesBelow}
 use Rattle.rv_isa.proofs.ValueBounds.{lines_joined}
-use Rattle.rv_lower.specs.Lines.{computes, sets, copies_to, acts}
+use Rattle.rv_lower.specs.Lines.{computes, sets, acts}
 use Rattle.rv_cells.specs.Layout.{Layout, first_field}
 use Rattle.rv_cells.specs.CellLines.{Loads, Stores, AllLoads, AllStores, StoresIf, SomeStores, SetIf, is_kept, dup_lines, drop_lines}
 use Rattle.rv_cells.specs.CellLines.{dups_lines, drops_lines, ConstructLines, hold_line, hold_lines, unhold_lines, SomeWords, FillLines}
@@ -74,13 +74,13 @@ module _ (most : ℕ) where
       by true = (((less, tt), tt), tt)
       by false = tt
 
-  pub drop_below : (base : ℕ) (holds : ℕ → Bool) (x : ℕ) → base < most → (holds x ≡ true → x < most)
-      → AreLinesBelow most (drop_lines base holds x)
-  drop_below base holds x base_less less = by (holds x) less
+  pub drop_below : (holds : ℕ → Bool) (x : ℕ) → (holds x ≡ true → x < most)
+      → AreLinesBelow most (drop_lines holds x)
+  drop_below holds x less = by (holds x) less
     where
       by : (held : Bool) → (held ≡ true → x < most) → AreLinesBelow most
-          (if held then copies_to x base ∷ acts (Calls Drop) (base ∷ []) ∷ [] else [])
-      by true less_if = (((less_if refl, tt), base_less), (((base_less, tt), tt), tt))
+          (if held then acts (Calls Drop) (x ∷ []) ∷ [] else [])
+      by true less_if = (((less_if refl, tt), tt), tt)
       by false less_if = tt
 
   dups_below : (holds : ℕ → Bool) (xs : List ℕ) → AreValuesBelow most xs → AreLinesBelow most (dups_lines holds xs)
@@ -88,12 +88,12 @@ module _ (most : ℕ) where
   dups_below holds (x ∷ xs) below =
       lines_joined most (dup_lines holds x) (dups_lines holds xs) (dup_below holds x below.0) (dups_below holds xs below.1)
 
-  drops_below : (base : ℕ) (holds : ℕ → Bool) (xs : List ℕ) → base < most → AreValuesBelow most xs
-      → AreLinesBelow most (drops_lines base holds xs)
-  drops_below base holds [] base_less below = tt
-  drops_below base holds (x ∷ xs) base_less below =
-      lines_joined most (drop_lines base holds x) (drops_lines base holds xs)
-      (drop_below base holds x base_less (λ held. below.0)) (drops_below base holds xs base_less below.1)
+  drops_below : (holds : ℕ → Bool) (xs : List ℕ) → AreValuesBelow most xs
+      → AreLinesBelow most (drops_lines holds xs)
+  drops_below holds [] below = tt
+  drops_below holds (x ∷ xs) below =
+      lines_joined most (drop_lines holds x) (drops_lines holds xs)
+      (drop_below holds x (λ held. below.0)) (drops_below holds xs below.1)
 
   some_below : (test : ℕ → Bool) (xs : List ℕ) → AreValuesBelow most xs → AreValuesBelow most (filter test xs)
   some_below test [] below = tt
@@ -173,11 +173,11 @@ module _ (most : ℕ) where
           (tt, room),
           (
             ((base_less, (room, tt)), tt),
-            lines_joined most (is.1 ++ (drops_lines base holds unused ++ ends))
+            lines_joined most (is.1 ++ (drops_lines holds unused ++ ends))
                 ((acts (Label shared) [] ∷ (begins ++ (is.1 ++ shares))) ++ (acts (Label behind) [] ∷ []))
-                (lines_joined most is.1 (drops_lines base holds unused ++ ends) loads
-                (lines_joined most (drops_lines base holds unused) ends
-                (drops_below base holds unused base_less (some_below (λ y. not (is_among used y)) fields below)) ends_below))
+                (lines_joined most is.1 (drops_lines holds unused ++ ends) loads
+                (lines_joined most (drops_lines holds unused) ends
+                (drops_below holds unused (some_below (λ y. not (is_among used y)) fields below)) ends_below))
                 (lines_joined most (acts (Label shared) [] ∷ (begins ++ (is.1 ++ shares))) (acts (Label behind) [] ∷ []) (
                   (tt, tt),
                   lines_joined most begins (is.1 ++ shares) begins_below

@@ -1,13 +1,9 @@
 -- The lines of a step before those of the code that follows it: together they are well formed, and have only their own labels.
-use Rattle.std.proofs.Common.{◌≡◌, ℕ, ◌+◌, ◌<◌, Bool, true, false, List, [], ◌∷◌, ◌++◌, length, refl, sym, subst, append_assoc}
+use Rattle.std.proofs.Common.{◌≡◌, ℕ, ◌+◌, ◌<◌, Bool, true, List, [], ◌∷◌, ◌++◌, length, sym, subst, append_assoc}
 use Rattle.kk_counted.specs.Lowerable.{AreBelow, bound_list}
 use Rattle.kk_core.specs.Sizes.{AreBound}
 use Rattle.kk_syntax.specs.Shapes.{is_among as is_bound}
-use Rattle.std.specs.Prelude.{if◌then◌else◌}
-use Rattle.rv_isa.specs.declared.asm.Action.TheVariants.{Routine as Calls}
-use Rattle.rv_isa.specs.declared.routine.Routine.TheVariants.{Drop}
 use Rattle.rv_isa.specs.AsmCode.{Line}
-use Rattle.rv_lower.specs.Lines.{copies_to, acts}
 use Rattle.rv_lower.specs.Lowered.{Goal}
 use Rattle.rv_lower.proofs.WellFormedness.{AllBound, Readable, Good, HasRoom}
 use Rattle.rv_lower.proofs.AbsentLabels.{has_no_append}
@@ -40,9 +36,9 @@ module _ (base : ℕ) (bound outer : List ℕ) (has : HasRoom base bound) (goal 
       fits_step base bound bound outer goal low high 1 (dup_lines holds x) more (dup_leads base bound holds x has is) fits
 
   pub fits_drop : (holds : ℕ → Bool) (x : ℕ) → is_bound bound x ≡ true → Fits base bound outer goal low high more
-      → Fits base bound outer goal low high (drop_lines base holds x ++ more)
+      → Fits base bound outer goal low high (drop_lines holds x ++ more)
   fits_drop holds x is fits =
-      fits_step base bound bound outer goal low high 2 (drop_lines base holds x) more (drop_leads base bound holds x has is) fits
+      fits_step base bound bound outer goal low high 1 (drop_lines holds x) more (drop_leads base bound holds x has is) fits
 
   -- a construction
   pub fits_construct : (x header : ℕ) (arguments : List ℕ) (own : List Line) → x < base → AreBound bound arguments

@@ -1,5 +1,5 @@
 -- The lines of an opening by the count of a cell, before those of the code that follows it.
-use Rattle.std.proofs.Common.{◌≡◌, ℕ, ◌+◌, ◌*◌, ◌<◌, ◌≤◌, ◌==◌, ◌⊎◌, inl, inr, Bool, true, false, not, ◌&&◌, ◌||◌, List}
+use Rattle.std.proofs.Common.{◌≡◌, ℕ, ◌+◌, ◌<◌, ◌≤◌, ◌==◌, ◌⊎◌, inl, inr, Bool, true, false, not, ◌&&◌, ◌||◌, List}
 use Rattle.kk_counted.specs.Lowerable.{AreBelow, bound_list}
 use Rattle.std.proofs.Common.{[], ◌∷◌, ◌++◌, length, Option, Some, None, IsSome, refl, sym, ap, subst, ◌∙◌, arith, append_assoc}
 use Rattle.std.specs.Prelude.{filter}
@@ -104,7 +104,7 @@ module _ (base : ℕ) (bound : List ℕ) (has : HasRoom base bound) (holds : ℕ
 
     -- the way of a cell that nothing else refers to, and the way of a shared one
     abbrev alone : List Line
-    alone = loads ++ (drops_lines base holds dropped ++ ends)
+    alone = loads ++ (drops_lines holds dropped ++ ends)
 
     abbrev shared : List Line
     shared = acts (Label low) [] ∷ lowered
@@ -115,13 +115,13 @@ module _ (base : ℕ) (bound : List ℕ) (has : HasRoom base bound) (holds : ℕ
     loads_fit : Leads Before Taken (length fields) loads
     loads_fit = loads_lead base bound x 2 fields loads has is below all_loads
 
-    drops_fit : Leads Taken Taken (2 * length dropped) (drops_lines base holds dropped)
+    drops_fit : Leads Taken Taken (length dropped) (drops_lines holds dropped)
     drops_fit = drops_lead base taken holds dropped room_taken
         (bound_filter taken (λ y. not (is_bound used y)) fields (bound_fields bound fields)).0
 
     alone_none : (l : ℕ) → HasNo l alone
     alone_none l = has_no_append l loads _ (loads_fit.no_label l)
-        (has_no_append l (drops_lines base holds dropped) _ (drops_fit.no_label l) (ends_none l))
+        (has_no_append l (drops_lines holds dropped) _ (drops_fit.no_label l) (ends_none l))
 
     module _ (tail : List Line) (ahead : Ahead base outer goal low high tail) where
       abbrev rest : List Line
@@ -156,7 +156,7 @@ module _ (base : ℕ) (bound : List ℕ) (has : HasRoom base bound) (holds : ℕ
       shared_none l other = (other_label l low other, lowered_lead.no_label l)
 
       alone_good : Good Before (alone ++ (shared ++ rest))
-      alone_good = subst (Good Before) (sym (assoc_inner loads (drops_lines base holds dropped) ends (shared ++ rest)))
+      alone_good = subst (Good Before) (sym (assoc_inner loads (drops_lines holds dropped) ends (shared ++ rest)))
           (loads_fit.good _ (drops_fit.good _ (ends_good shared tail (shared_none (low + 1) (λ same. omega (arith, same)))
           (shared_none (low + 2) (λ same. omega (arith, same))) more_good shared_good.formed)))
 

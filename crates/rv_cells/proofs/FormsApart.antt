@@ -200,7 +200,7 @@ module _ (setting : Setting) (variables : ℕ) where
     orderly left goal low (Tokened.drop x rest) own high lines a = (
       omega arith,
       (
-        ([], before_all own (drop_lines setting.base setting.holds x) lines.0 lines.2),
+        ([], before_all own (drop_lines setting.holds x) lines.0 lines.2),
         (
           (
             act_own setting variables left goal low rest lines.0 high lines.1 a,

@@ -303,8 +303,8 @@ module _ (setting : Setting) (marks : CellMarks) (result : Bool) (variables slot
     code_below comes (Tokened.drop x rest) bound unspent left held given goal low high lines branch to has uses numbered arities few
         spends is =
         subst Below (sym is.2)
-        (lines_joined most (drop_lines setting.base setting.holds x) is.0
-        (drop_below most setting.base setting.holds x base_less (λ held. variable_less x (has.low x (uses.0 held))))
+        (lines_joined most (drop_lines setting.holds x) is.0
+        (drop_below most setting.holds x (λ held. variable_less x (has.low x (uses.0 held))))
         (code_below comes rest bound unspent left held given goal low high is.0 branch to has uses.1 numbered arities few spends
         is.1))
     code_below comes (Tokened.fill x y c first arguments kept others rest) bound unspent left held given goal low high lines branch

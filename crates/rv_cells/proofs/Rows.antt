@@ -1,6 +1,6 @@
 -- Rows of loads, dups and drops; readings and openings.
 use Rattle.rv_cells.proofs.LineCosts.{most_moves, row_cost}
-use Rattle.std.proofs.Common.{◌≡◌, ◌≤◌, ℕ, zero, suc, ◌+◌, ◌*◌, true, false, inl, inr, List, [], ◌∷◌, ◌++◌, length, map, Option, Some, None, refl, sym, ◌∙◌, ap, subst, arith}
+use Rattle.std.proofs.Common.{◌≡◌, ◌≤◌, ℕ, zero, suc, ◌+◌, true, false, inl, inr, List, [], ◌∷◌, ◌++◌, length, map, Option, Some, None, refl, sym, ◌∙◌, ap, subst, arith}
 use Rattle.std.proofs.lemmas.Bool.{cases_eq}
 use Rattle.std.proofs.lemmas.List.{length-map}
 use Rattle.kk_syntax.specs.Shapes.{is_among}
@@ -18,10 +18,10 @@ use Rattle.kk_counted.specs.Lowerable.{bound_list, AreBelow}
 use Rattle.rv_isa.specs.Numbers.{cell_words}
 use Rattle.rv_isa.specs.AsmCode.{Line}
 use Rattle.rv_isa.specs.Frames.{Frame}
-use Rattle.cell_heap.specs.Blocks.{Cells, own}
+use Rattle.cell_heap.specs.Blocks.{own}
 use Rattle.cell_runtime.specs.World.{World}
 use Rattle.rv_cells.specs.Layout.{Layout, word_in, words_in, FitFields, first_field}
-use Rattle.rv_cells.specs.CountedCells.{AreFrom, Owner}
+use Rattle.rv_cells.specs.CountedCells.{AreFrom}
 use Rattle.rv_cells.specs.CellLines.{AllLoads, ReadLines, dup_lines, drop_lines, dups_lines, drops_lines}
 use Rattle.rv_cells.proofs.NameContents.{some-is, held_within, held_other, held_count, held_fields}
 use Rattle.rv_cells.proofs.Words.{all_within_more, load_own, cell_named as cell_of_name}
@@ -171,16 +171,10 @@ module _ (known : Known) (rest : List Line) (fs : List (Frame Line)) where
             (dups_lines known.holds xs) rest fs s mid (with_heap s next others.0 others.1) one.2 others.2,
       )
 
-  abbrev pub ChangedFrame : ℕ → List Line → Spot → Heap → Type 0
-  ChangedFrame most lines s next =
-      (frame : Frame Line) × (owners : ℕ → Owner) × (cells : Cells) × Did known most lines rest fs s
-      (record (with_heap s next owners cells) { frame = frame })
-
   pub drops_did : (xs : List ℕ) (s : Spot) (next : Heap) → Here known s → AllAmong xs s.bound
       → drop_all (values_of s.environment xs) s.heap ≡ Some next
-      → ChangedFrame (row_cost xs (2 * most_moves + 16)) (drops_lines known.base known.holds xs) s next
+      → Changed known (row_cost xs (most_moves + 14)) (drops_lines known.holds xs) rest fs s next
   drops_did [] s next here bound is = (
-    s.frame,
     s.owners,
     s.world.cells,
     subst (λ h. Did known 0 [] rest fs s (with_heap s h s.owners s.world.cells)) (some-is is)
@@ -188,13 +182,11 @@ module _ (known : Known) (rest : List Line) (fs : List (Frame Line)) where
   )
   drops_did (x ∷ xs) s next here bound is =
       let first = then_some (drop_value (value_of s.environment x) s.heap) (drop_all (values_of s.environment xs)) next is in
-      let one = drop_did known (drops_lines known.base known.holds xs ++ rest) fs s here x bound.0 first.0 first.1 in
-      let mid = record (with_heap s first.0 one.1 one.2) { frame = one.0 } in
-      let others = drops_did xs mid next one.3.here bound.1 first.2 in (
+      let one = drop_did known (drops_lines known.holds xs ++ rest) fs s here x bound.0 first.0 first.1 in
+      let mid = with_heap s first.0 one.0 one.1 in
+      let others = drops_did xs mid next one.2.here bound.1 first.2 in (
         others.0,
         others.1,
-        others.2,
-        did_then known (2 * most_moves + 16) (row_cost xs (2 * most_moves + 16))
-            (drop_lines known.base known.holds x) (drops_lines known.base known.holds xs) rest fs s mid
-            (record (with_heap s next others.1 others.2) { frame = others.0 }) one.3 others.3,
+        did_then known (most_moves + 14) (row_cost xs (most_moves + 14)) (drop_lines known.holds x)
+            (drops_lines known.holds xs) rest fs s mid (with_heap s next others.0 others.1) one.2 others.2,
       )

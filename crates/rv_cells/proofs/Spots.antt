@@ -10,7 +10,7 @@ use Rattle.std.specs.Prelude.{if◌then◌else◌}
 use Rattle.rv_isa.specs.declared.asm.Action.TheVariants.{Compute, Routine as Calls}
 use Rattle.rv_isa.specs.declared.asm.Operation.TheVariants as Op
 use Rattle.rv_isa.specs.declared.routine.Routine.TheVariants.{Drop}
-use Rattle.rv_lower.specs.Lines.{copies_to, acts}
+use Rattle.rv_lower.specs.Lines.{acts}
 use Rattle.rv_isa.specs.AsmCode.{Line}
 use Rattle.rv_isa.specs.Frames.{Frame}
 use Rattle.rv_isa.specs.Numbers.{cell_size}
@@ -21,13 +21,12 @@ use Rattle.rv_cells.specs.Layout.{Layout, IsNarrow, word_in, FitsField}
 use Rattle.rv_cells.specs.CountedCells.{Owner, nobody, cell_of, in_hand, kept_aside, Follows, still, still_count, is_aside}
 use Rattle.rv_cells.specs.CellLines.{dup_lines, drop_lines}
 use Rattle.rv_cells.proofs.NameContents.{some-is}
-use Rattle.rv_lower.proofs.FormEffects.{put_same, put_other}
-use Rattle.rv_cells.proofs.Values.{HasValues, has_temporary}
+use Rattle.rv_cells.proofs.Values.{HasValues}
 use Rattle.rv_cells.proofs.Cascades.{busy_set}
 use Rattle.rv_cells.proofs.Counts.{dupped}
 use Rattle.rv_cells.proofs.Drops.{drops, drop_paid}
 use Rattle.rv_cells.proofs.Runs.{Target, turn_of, Runs, runs_none, runs_then}
-use Rattle.rv_cells.proofs.CellActions.{put_in, copy_runs, dup_runs, drop_runs}
+use Rattle.rv_cells.proofs.CellActions.{dup_runs, drop_runs}
 use Rattle.rv_cells.proofs.LineCosts.{most_moves}
 
 pub record Spot : Type 0 where
@@ -294,50 +293,27 @@ module _ (known : Known) (rest : List Line) (fs : List (Frame Line)) (s : Spot) 
       (dup_lines known.holds x) rest fs s next
   dup_did is small = dup_by (known.holds x) (here.values.fits x bound) is small
 
-  with_temporary : (t word : ℕ) → Spot
-  with_temporary t word = record s { frame = put_in t word s.frame }
-
   drop_by : (b : Bool) → FitsField b (value_of s.environment x) → drop_value (value_of s.environment x) s.heap ≡ Some next
-      → (frame : Frame Line) × (owners : ℕ → Owner) × (cells : Cells)
-      × Did known (2 * most_moves + 16)
-      (if b then copies_to x known.base ∷ acts (Calls Drop) (known.base ∷ []) ∷ [] else []) rest fs s
-      (record (with_heap s next owners cells) { frame = frame })
-  drop_by false fits is =
-      let same = same_did known (2 * most_moves + 16) rest fs s next here
-      (drop_plain (value_of s.environment x) s.heap next fits is) in
-      (s.frame, same.0, same.1, same.2)
+      → Changed known (most_moves + 14) (if b then acts (Calls Drop) (x ∷ []) ∷ [] else []) rest fs s next
+  drop_by false fits is = same_did known (most_moves + 14) rest fs s next here
+      (drop_plain (value_of s.environment x) s.heap next fits is)
   drop_by true fits is =
       let word = word_in known.layout s.address (value_of s.environment x) in
       let done = drops known.aligned known.narrow here.follows (value_of s.environment x) next fits is in
       let paid = drop_paid (value_of s.environment x) s.heap next done.work is done.few done.freed in
-      let long = drop_length (value_of s.environment x) s.heap next is in
-      let copied = put_in known.base word s.frame in
-      let first = copy_runs known.target (acts (Calls Drop) (known.base ∷ []) ∷ rest) s.frame fs s.world x known.base word
-      (here.values.words x bound) in
-      let second = drop_runs known.target rest copied fs s.world known.base word done.work (put_same known.base word s.frame.cells)
-      done.is in (
-        copied,
+      let long = drop_length (value_of s.environment x) s.heap next is in (
         (λ at. still next (s.owners at)),
         merged_cells done.work s.world.cells,
-        did_here known (2 * most_moves + 16) (copies_to x known.base ∷ acts (Calls Drop) (known.base ∷ []) ∷ []) rest fs s
-            (record (with_heap s next (λ at. still next (s.owners at)) (merged_cells done.work s.world.cells)) { frame = copied })
-            ((most_moves + 2) + (most_drop_cost done.work.gave done.work.freed + (most_moves + 1))) 2 (omega arith)
-            (runs_then known.target (most_moves + 2) (most_drop_cost done.work.gave done.work.freed + (most_moves + 1)) 1 1
-            (turn_of (copies_to x known.base ∷ acts (Calls Drop) (known.base ∷ []) ∷ rest) s.frame fs s.world)
-            (turn_of (acts (Calls Drop) (known.base ∷ []) ∷ rest) copied fs s.world)
-            (turn_of rest copied fs (with_cells s.world (merged_cells done.work s.world.cells))) first second)
-            (record {
-              follows = done.holds;
-              values = has_temporary (values_there known s next long here) known.base word
-                  (omega arith);
-            })
-            refl refl (λ at is. still_aside next (s.owners at) is) (λ at is. still_was next (s.owners at) is) (λ z none. none)
-            (λ z low none. put_other known.base z word s.frame.cells (λ e. omega (arith, e, low))),
+        did_here known (most_moves + 14) (acts (Calls Drop) (x ∷ []) ∷ []) rest fs s
+            (with_heap s next (λ at. still next (s.owners at)) (merged_cells done.work s.world.cells))
+            (most_drop_cost done.work.gave done.work.freed + (most_moves + 1)) 1 (omega arith)
+            (drop_runs known.target rest s.frame fs s.world x word done.work (here.values.words x bound) done.is)
+            (record { follows = done.holds; values = values_there known s next long here }) refl refl
+            (λ at is. still_aside next (s.owners at) is) (λ at is. still_was next (s.owners at) is) (λ z none. none)
+            (λ z low none. refl),
       )
 
   -- a drop with all that it frees
   pub drop_did : drop_value (value_of s.environment x) s.heap ≡ Some next
-      → (frame : Frame Line) × (owners : ℕ → Owner) × (cells : Cells)
-      × Did known (2 * most_moves + 16) (drop_lines known.base known.holds x) rest fs s
-      (record (with_heap s next owners cells) { frame = frame })
+      → Changed known (most_moves + 14) (drop_lines known.holds x) rest fs s next
   drop_did is = drop_by (known.holds x) (here.values.fits x bound) is

@@ -1,5 +1,5 @@
 -- The lines of forms that leave the tokens as they are, and do the steps of the machine with tokens.
-use Rattle.std.proofs.Common.{inl, ◌≡◌, ℕ, suc, ◌+◌, ◌*◌, ◌<◌, ◌≤◌, true, false, List, [], ◌∷◌, ◌++◌, length, map, Option, Some, None, refl, sym, ◌∙◌, ap, subst, arith}
+use Rattle.std.proofs.Common.{inl, ◌≡◌, ℕ, suc, ◌+◌, ◌<◌, ◌≤◌, true, false, List, [], ◌∷◌, ◌++◌, length, map, Option, Some, None, refl, sym, ◌∙◌, ap, subst, arith}
 use Rattle.kk_syntax.specs.Shapes.{is_among}
 use Rattle.kk_source.specs.Live.{value_of}
 use Rattle.kk_source.specs.Actions.{Action, goes}
@@ -173,9 +173,8 @@ module _ (program : Lowering) where
       let step : token_code_step (setting program) code s.environment inner from
       ≡ goes (machine_at program rest s.environment inner frames next.0 tokens) = ap (λ o. goes (to_heap o from there)) next.1 in
       let few = p.short in
-      goes_counted code inner frames tokens input s fs left at idle fit rest (drop_lines
-      (at.shape.variables + at.shape.slots) at.shape.holds x) p.lines.0
-      next.0 done.0 done.1 (with_cells s.world done.2) (2 * most_moves + 16) done.3
+      goes_counted code inner frames tokens input s fs left at idle fit rest (drop_lines at.shape.holds x) p.lines.0
+      next.0 s.frame done.0 (with_cells s.world done.1) (most_moves + 14) done.2
       (drop_length (value_of s.environment x) s.heap next.0 next.1) (drop_cells (value_of s.environment x) s.heap next.0 next.1)
       p.lines.2 p.lines.1 (record { way = 0 ∷ []; is_part = inl refl; code_is = refl }) p.marked.1 p.numbered p.has p.keeps step
       refl

@@ -227,10 +227,10 @@ step_dups facts variables x wrote =
     step_alone facts variables (TokenedMove.dups x) (dup_lines facts.holds x) (grows_of wrote) (λ rest. refl)
     (λ later goal rest more high is. (more, code_same facts variables goal rest more high refl refl wrote.label is, refl))
 
-pub step_drops : {a b : Lowering} (facts : Facts) (variables x : ℕ) → Wrote (drop_lines a.base facts.holds x) a b
+pub step_drops : {a b : Lowering} (facts : Facts) (variables x : ℕ) → Wrote (drop_lines facts.holds x) a b
     → WroteTokenedSteps facts variables (TokenedMove.drops x ∷ []) [] a b
-step_drops {a} facts variables x wrote =
-    step_alone facts variables (TokenedMove.drops x) (drop_lines a.base facts.holds x) (grows_of wrote) (λ rest. refl)
+step_drops facts variables x wrote =
+    step_alone facts variables (TokenedMove.drops x) (drop_lines facts.holds x) (grows_of wrote) (λ rest. refl)
     (λ later goal rest more high is. (more, code_same facts variables goal rest more high refl refl wrote.label is, refl))
 
 pub step_fills : {a b : Lowering} (facts : Facts) (variables x y c first : ℕ) (arguments kept others : List ℕ)

@@ -160,8 +160,8 @@ module _ (setting : Setting) (variables : ℕ) where
         omega (arith, whole, apart, own, more)
     code_few branch (Tokened.drop x rest) goal low high lines left unspent held arities spends is =
         let whole = ap code_length is.2 in
-        let apart = lines_append (drop_lines setting.base setting.holds x) is.0 in
-        let own = drop_length setting.holds setting.base x in
+        let apart = lines_append (drop_lines setting.holds x) is.0 in
+        let own = drop_length setting.holds x in
         let more = code_few branch rest goal low high is.0 left unspent held arities spends is.1 in
         omega (arith, whole, apart, own, more)
     code_few branch (Tokened.fill x y c first arguments kept others rest) goal low high lines left unspent held arities spends is =

@@ -599,8 +599,8 @@ module _ (layout : Layout) (holds : ℕ → Bool) (texts : Texts) (standing : St
         numbered orderly some arities few at spends first second tested plain is = absurd tested
     joined_fits (Tokened.drop y rest) branch x bound outer unspent left held given goal low high lines has within marked
         numbered orderly some arities few at spends first second tested plain is =
-        let none : drop_lines (variables + slots) holds y ≡ []
-        = ap (λ (b : Bool). if b then copies_to y (variables + slots) ∷ acts (Calls Drop) ((variables + slots) ∷ []) ∷ [] else [])
+        let none : drop_lines holds y ≡ []
+        = ap (λ (b : Bool). if b then acts (Calls Drop) (y ∷ []) ∷ [] else [])
         tested.0 in
         subst (HeldFits held (reads unspent bound) (reads left outer) goal low high)
         (sym (is.2 ∙ ap (λ (own : List Line). own ++ is.0) none))

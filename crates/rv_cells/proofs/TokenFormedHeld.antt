@@ -220,26 +220,28 @@ module _ (variables base : ℕ) (bound : List ℕ) (has : HasRoom base bound) (h
       behind : (v : ℕ) → is_written (Some x) v ≡ false → is_alive_behind v (Call f) rest ≡ true → is_bound bound v ≡ true
       behind v other is = only_bound base bound has v (variable_left base base bound x v (more.alive v is) other)
 
-  drop_left : (held : List ℕ) → AllByRecursion (λ (v : ℕ). (variables ≤ v) × (v < base)) held
-      → AllByRecursion (λ (v : ℕ). (is_among v (base ∷ []) ≡ false) × (is_written None v ≡ false)) held
-  drop_left [] all = tt
-  drop_left (v ∷ held) all = ((temporaries_above base v (0 ∷ []) all.0.1, refl), drop_left held all.1)
+  drop_left : (x : ℕ) → x < variables → (held : List ℕ) → AllByRecursion (λ (v : ℕ). (variables ≤ v) × (v < base)) held
+      → AllByRecursion (λ (v : ℕ). (is_among v (x ∷ []) ≡ false) × (is_written None v ≡ false)) held
+  drop_left x less [] all = tt
+  drop_left x less (v ∷ held) all =
+      let above = all.0.0 in (
+        (ap (λ (t : Bool). t || false) (ne_eqb x v (λ e. absurd (omega (arith, e, less, above)))), refl),
+        drop_left x less held all.1,
+      )
 
   -- a reference is given up
-  holding_drop : (x : ℕ) (rest : List Line) → Holding held (Readable base base bound) rest
-      → Holding held (Readable base (base + 1) bound) (acts (Routine Drop) (base ∷ []) ∷ rest)
-  holding_drop x rest more = record {
+  holding_drop : (x : ℕ) (rest : List Line) → is_bound bound x ≡ true → x < variables
+      → Holding held (Readable base base bound) rest
+      → Holding held (Readable base base bound) (acts (Routine Drop) (x ∷ []) ∷ rest)
+  holding_drop x rest is less more = record {
     lines = (
-      hands_formed base bound (x ∷ []) (Routine Drop) None rest has tt (omega arith) (omega arith)
-          (λ is. absurd (false≢true is)) (λ v is. absurd (none_some is)) behind,
+      read_formed (Routine Drop) (x ∷ []) None rest tt (omega arith) (λ is. absurd (false≢true is)) refl
+          (one_small x (readable_small base base bound has (omega arith) x (inl is))) (λ v is. absurd (none_some is)),
       more.lines,
     );
-    tokens = held_over (acts (Routine Drop) (base ∷ [])) held rest tt refl (drop_left held between) more.tokens;
-    alive = hands_alive base bound (x ∷ []) (Routine Drop) None rest behind;
+    tokens = held_over (acts (Routine Drop) (x ∷ [])) held rest tt refl (drop_left x less held between) more.tokens;
+    alive = alive_line (Readable base base bound) (acts (Routine Drop) (x ∷ [])) rest (inl is, tt) (λ v none is. more.alive v is);
   }
-    where
-      behind : (v : ℕ) → is_written None v ≡ false → is_alive_behind v (Routine Drop) rest ≡ true → is_bound bound v ≡ true
-      behind v other is = only_bound base bound has v (more.alive v is)
 
 -- ---- code
 
@@ -298,20 +300,17 @@ module _ (base : ℕ) (held bound outer : List ℕ) (has : HasRoom base bound) (
   pub fits_held_drop : (variables x : ℕ) (holds : ℕ → Bool) → AllByRecursion (λ (v : ℕ). (variables ≤ v) × (v < base)) held
       → (holds x ≡ true → (is_bound bound x ≡ true) × (x < variables))
       → FitsHeld base held bound outer goal low high more
-      → FitsHeld base held bound outer goal low high (drop_lines base holds x ++ more)
+      → FitsHeld base held bound outer goal low high (drop_lines holds x ++ more)
   fits_held_drop variables x holds between may fits = by (holds x) refl
     where
       own : Bool → List Line
-      own some = if some then copies_to x base ∷ acts (Routine Drop) (base ∷ []) ∷ [] else []
+      own some = if some then acts (Routine Drop) (x ∷ []) ∷ [] else []
 
       dropped : is_bound bound x ≡ true → x < variables → FitsHeld base held bound outer goal low high (own true ++ more)
       dropped is less = record {
         up = fits.up;
-        none = λ l apart. (refl, (refl, fits.none l apart));
-        good = λ tail ahead.
-            holding_copies variables base bound has held between base (base + 1) (x ∷ [])
-            (acts (Routine Drop) (base ∷ []) ∷ (more ++ tail)) (omega arith) refl (omega arith) (is, tt) (less, tt)
-            (holding_drop variables base bound has held between x (more ++ tail) (fits.good tail ahead));
+        none = λ l apart. (refl, fits.none l apart);
+        good = λ tail ahead. holding_drop variables base bound has held between x (more ++ tail) is less (fits.good tail ahead);
       }
 
       by : (some : Bool) → holds x ≡ some → FitsHeld base held bound outer goal low high (own (holds x) ++ more)

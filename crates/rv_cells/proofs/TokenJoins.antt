@@ -19,7 +19,7 @@ use Rattle.rv_isa.specs.declared.asm.Action.TheVariants.{Branch, Routine as Call
 use Rattle.rv_isa.specs.declared.routine.Routine.TheVariants.{Drop}
 use Rattle.rv_isa.specs.AsmCode.{Line}
 use Rattle.rv_lower.specs.declared.lowering.Lowering.{Lowering}
-use Rattle.rv_lower.specs.Lines.{copies_to, acts}
+use Rattle.rv_lower.specs.Lines.{acts}
 use Rattle.rv_lower.specs.Lowered.{Goal}
 use Rattle.rv_lower.specs.Written.{texts_written, Wrote, Grows}
 use Rattle.rv_lower.proofs.CodeGrowth.{grows_of, grows_then, grows_more, later_texts}
@@ -114,7 +114,7 @@ lines_before setting variables goal low high lines [] last branch plain are = ar
 lines_before setting variables goal low high lines (y ∷ ys) last branch plain are = (
   lines,
   lines_before setting variables goal low high lines ys last branch plain.1 are,
-  sym (ap (λ (b : Bool). (if b then copies_to y setting.base ∷ acts (Calls Drop) (setting.base ∷ []) ∷ [] else []) ++ lines)
+  sym (ap (λ (b : Bool). (if b then acts (Calls Drop) (y ∷ []) ∷ [] else []) ++ lines)
       plain.0),
 )
 

@@ -486,7 +486,7 @@ module _ (program : Lowering) (code : Tokened) (x c : ℕ) (fields used : List �
       let weighs = a.weighs in
       let one = row_times fields (most_moves + 2) in
       let two = row_times (filter (is_among used) fields) (most_moves + 5) in
-      let three = row_times (others_of used fields) (2 * most_moves + 16) in
+      let three = row_times (others_of used fields) (most_moves + 14) in
       omega (arith, one, two, three, weighs)
 
   finish : (frame : Frame Line) (owners : ℕ → Owner) (cells : Cells) → Leads_to after_lines frame owners cells → (after : Tokens)
@@ -705,7 +705,7 @@ module _ (program : Lowering) (code : Tokened) (x c : ℕ) (fields used : List �
       (finds p.low s.frame.whole (p.before ++ first) (shared_rest ++ behind) at.has.formed shared_at)
       (finds (p.low + 1) s.frame.whole ((p.before ++ first) ++ shared) after at.has.formed behind_at) in
       let base = at.shape.variables + at.shape.slots in
-      let drops = drops_lines base at.shape.holds (others_of used fields) in
+      let drops = drops_lines at.shape.holds (others_of used fields) in
       let before = λ (ls : List Line). a.uniques.0 ∷ sets 1 (base + 1) ∷ acts (Branch NotEqual p.low) (base ∷ (base + 1) ∷ []) ∷ ls
       in
       let entered : (made : ℕ) → a.into ≡ Some made → a.own ++ after_lines ≡ before_entry ++ (entry made ++ (shared ++ behind))

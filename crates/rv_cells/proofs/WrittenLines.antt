@@ -206,7 +206,7 @@ module _ {holds : ℕ → Bool} {x : ℕ} {fields used : List ℕ} {token : ℕ}
   pub opening_written : {shared behind : ℕ} {loads : List Line} {a b c d e f g h i j k l m : Lowering} → TookLabel shared a b
       → TookLabel behind b c
       → AllLoads x first_field fields loads → WroteLines (TestsCount c.base shared x) c d → Wrote loads d e
-      → Wrote (drops_lines e.base holds (filter (λ y. not (is_among used y)) fields)) e f → Wrote (token_ends into x token behind
+      → Wrote (drops_lines holds (filter (λ y. not (is_among used y)) fields)) e f → Wrote (token_ends into x token behind
       (behind + 1)) f g
       → Wrote (acts (Label shared) [] ∷ []) g h → Wrote (sets 0 token ∷ []) h i → Wrote loads i j → WroteLines (LowersCount j.base
       x) j k
@@ -255,7 +255,7 @@ module _ {holds : ℕ → Bool} {x : ℕ} {fields used : List ℕ} {token : ℕ}
       at_j = again.base ∙ began.base ∙ label.base ∙ end.base ∙ drops.base ∙ at_e
 
       dropped : List Line
-      dropped = drops_lines a.base holds (filter (λ y. not (is_among used y)) fields)
+      dropped = drops_lines holds (filter (λ y. not (is_among used y)) fields)
 
       dupped : List Line
       dupped = dups_lines holds (filter (is_among used) fields)
@@ -276,8 +276,7 @@ module _ {holds : ℕ → Bool} {x : ℕ} {fields used : List ℕ} {token : ℕ}
       whole : Wrote lines c m
       whole =
           wrote_then test.wrote
-          (wrote_then (wrote_then one (wrote_then (subst (λ n. Wrote
-          (drops_lines n holds (filter (λ y. not (is_among used y)) fields)) e f) at_e drops) end))
+          (wrote_then (wrote_then one (wrote_then drops end))
           (wrote_then (wrote_then label (wrote_then began (wrote_then again (wrote_then less.wrote dups)))) last))
 
 -- ---- constructions

@@ -60,16 +60,16 @@ is_kept false kept position = not (is_among kept position)
 abbrev pub dup_lines : (ℕ → Bool) → ℕ → List Line
 dup_lines holds x = if holds x then acts (Compute Op.Dup) (x ∷ []) ∷ [] else []
 
-abbrev pub drop_lines : ℕ → (ℕ → Bool) → ℕ → List Line
-drop_lines base holds x = if holds x then copies_to x base ∷ acts (Calls Drop) (base ∷ []) ∷ [] else []
+abbrev pub drop_lines : (ℕ → Bool) → ℕ → List Line
+drop_lines holds x = if holds x then acts (Calls Drop) (x ∷ []) ∷ [] else []
 
 abbrev pub dups_lines : (ℕ → Bool) → List ℕ → List Line
 dups_lines holds [] = []
 dups_lines holds (x ∷ xs) = dup_lines holds x ++ dups_lines holds xs
 
-abbrev pub drops_lines : ℕ → (ℕ → Bool) → List ℕ → List Line
-drops_lines base holds [] = []
-drops_lines base holds (x ∷ xs) = drop_lines base holds x ++ drops_lines base holds xs
+abbrev pub drops_lines : (ℕ → Bool) → List ℕ → List Line
+drops_lines holds [] = []
+drops_lines holds (x ∷ xs) = drop_lines holds x ++ drops_lines holds xs
 
 -- ---- forms
 
@@ -81,7 +81,8 @@ ConstructLines base x header arguments lines =
     × (lines ≡ record { action = Calls Take; args = []; into = Some x } ∷ sets header base ∷ head ∷
     (fields ++ sets 1 base ∷ count ∷ []))
 
--- A token is held, which stands in its slot and in a register. Where it is read next, a register gets it again as it is taken back.
+-- A Hold reads its token twice, in its slot and in a register. Where the token is read behind the call, its Unhold gives it to a register
+-- again.
 abbrev pub hold_line : ℕ → Line
 hold_line token = acts Hold (token ∷ token ∷ [])
 
@@ -128,7 +129,7 @@ CountLines base holds shared behind x fields used ends begins lines =
     × Loads x 0 base test × AllLoads x first_field fields loads × Loads x 0 base count × (less.word ≡ 2 ^ 32 - 1)
     × Stores x 0 base store
     × (lines ≡ test ∷ sets 1 (base + 1) ∷ acts (Branch NotEqual shared) (base ∷ (base + 1) ∷ []) ∷
-    ((loads ++ (drops_lines base holds (filter (λ y. not (is_among used y)) fields) ++ ends))
+    ((loads ++ (drops_lines holds (filter (λ y. not (is_among used y)) fields) ++ ends))
     ++ ((acts (Label shared) [] ∷ (begins ++ (loads ++ (count ∷ computes (Op.Immediate Addi less) (base ∷ []) base ∷ store
     ∷ dups_lines holds (filter (is_among used) fields)))))
     ++ (acts (Label behind) [] ∷ []))))

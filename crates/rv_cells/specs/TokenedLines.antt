@@ -194,7 +194,7 @@ abbrev mutual
       (more : List Line) × LinesBehind None setting variables goal low rest more high × (lines ≡ dup_lines setting.holds x ++ more)
   LinesBehind left setting variables goal low (Tokened.drop x rest) lines high =
       (more : List Line) × LinesBehind left setting variables goal low rest more high
-      × (lines ≡ drop_lines setting.base setting.holds x ++ more)
+      × (lines ≡ drop_lines setting.holds x ++ more)
   LinesBehind left setting variables goal low (Tokened.fill x y c first arguments kept others rest) lines high =
       (own : List Line) × (more : List Line)
       × FillLines setting.base x (variables + y) (values_of_slots variables others) low (header_of setting.layout c)

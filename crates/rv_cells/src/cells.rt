@@ -243,16 +243,12 @@ pub fn write_dup(lowering: &mut Lowering, known: &Known<'_>, variable: u32) -> R
 
 /// A reference of the value of a variable is given up.
 pub fn write_drop(lowering: &mut Lowering, known: &Known<'_>, variable: u32) -> Result<(), NoMemory>
-    ensures { OnOk result (Wrote (drop_lines lowering.old.base (holds_known known.now) variable) lowering.old lowering.new) }
+    ensures { OnOk result (Wrote (drop_lines (holds_known known.now) variable) lowering.old lowering.new) }
 {
     if !known.holds(variable) {
         return Ok(());
     }
-    let given_up = lowering.base;
-    lowering.write(&[
-        copy(variable, given_up),
-        act(Action::Routine(Routine::Drop), Reads::One(given_up)),
-    ])
+    lowering.write(&[act(Action::Routine(Routine::Drop), Reads::One(variable))])
 }
 
 /// A reference more of each field in use.
@@ -280,7 +276,7 @@ fn write_drops(
     fields: &[u32],
     used: &[u32],
 ) -> Result<(), NoMemory>
-    ensures { OnOk result (Wrote (drops_lines lowering.old.base (holds_known known.now)
+    ensures { OnOk result (Wrote (drops_lines (holds_known known.now)
         (filter (λ y. not (is_among used.now y)) fields.now)) lowering.old lowering.new) }
 {
     for field in fields {

@@ -4,6 +4,8 @@ use Rattle.rv_isa.specs.declared.asm.Action.{Action}
 use Rattle.rv_isa.specs.declared.asm.Action.TheVariants.{Compute, Label, Jump, Branch, Call, TailCall, Return, Routine, Hold, Unhold}
 use Rattle.rv_isa.specs.declared.asm.Operation.{Operation}
 use Rattle.rv_isa.specs.declared.asm.Operation.TheVariants.{Li, La, Dup, Free}
+use Rattle.rv_isa.specs.declared.routine.Routine.{Routine as Called}
+use Rattle.rv_isa.specs.declared.routine.Routine.TheVariants.{Drop}
 use Rattle.rv_isa.specs.AsmCode.{Line, Lines}
 use Rattle.rv_isa.specs.PlacedCode.{PlacedLine, does, moves, PlacedLines}
 use Rattle.rv_isa.specs.Primitives.{Primitives}
@@ -30,8 +32,8 @@ routine_instructions m _ _ held shared = 0
 -- A far jump is two instructions, and a branch to a far label one over a jump. A call has its callee's entry: it compares the
 -- newest frame with the end of the cells, takes a frame and saves the return address. A return loads it and gives the frame back; a
 -- large frame is taken and given back in two parts. Where one of two functions takes no frame, a tail call from one to the other takes
--- or gives back that of the other one. A token in a register is put on the held chain; one is loaded from its slot and
--- taken off. An action is as many instructions where it is written.
+-- or gives back that of the other one. A token in a register is put on the held chain; one that is taken off is
+-- loaded from its slot first. An action is as many instructions where it is written, but for a tail call and a drop.
 abbrev pub action_instructions : Action → ℕ
 action_instructions (Compute operation) = operation_instructions operation
 action_instructions (Label l) = 0
@@ -49,9 +51,9 @@ instructions_of m action words held shared = action_instructions action + routin
 
 -- ---- moves
 
--- The moves for the arguments of an action, at most. Each is loaded. Those of a computation may be stored again behind it, where
--- they are still needed; those of a call are stored once more, by its callee. A token that is taken back
--- is in its slot, from which the action itself loads it.
+-- The moves for the arguments of an action, at most. Each is loaded; of a Hold, the token is stored in its slot and loaded. Those of a
+-- computation may be stored again behind it, where they are still needed; those of a call are stored once more, by its callee. A token
+-- that is taken back is in its slot, from which the action itself loads it.
 abbrev pub argument_moves : Action → ℕ → ℕ
 argument_moves (Compute operation) count = 2 * count
 argument_moves (Call f) count = 2 * count
@@ -75,9 +77,15 @@ line_moves line = argument_moves line.action (length line.args) + result_moves l
 abbrev pub tail_call_length : ℕ
 tail_call_length = 11
 
+-- The most instructions that are written for a call of a routine. Before that of a drop six lower the count of the cell.
+abbrev pub routine_length : Called → ℕ
+routine_length Drop = 8
+routine_length _ = 2
+
 -- the most instructions that are written for an action
 abbrev pub action_length : Action → ℕ
 action_length (TailCall f) = tail_call_length
+action_length (Routine routine) = routine_length routine
 action_length action = action_instructions action
 
 -- The most instructions that a line is, with its moves, that a code is, and that all functions are. Those of a function store its

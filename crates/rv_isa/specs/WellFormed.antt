@@ -5,6 +5,7 @@ use Rattle.kk_base.specs.declared.limit.LimitKind.TheVariants.{Parameters}
 use Rattle.rv_isa.specs.declared.asm.Action.{Action}
 use Rattle.rv_isa.specs.declared.asm.Action.TheVariants.{Compute, Label, Jump, Branch, Call, TailCall, Return, Routine, Hold, Unhold}
 use Rattle.rv_isa.specs.declared.asm.Operation.TheVariants.{Sw, Dup, Free}
+use Rattle.rv_isa.specs.declared.routine.Routine.TheVariants.{Drop}
 use Rattle.rv_isa.specs.AsmCode.{Line, Lines}
 use Rattle.rv_isa.specs.Routines.{taken_by, given_by}
 use Rattle.rv_isa.specs.Sizes.{wide_frame}
@@ -83,10 +84,12 @@ may_give (Routine routine) = has_value (given_by routine)
 may_give Unhold = true
 may_give _ = false
 
--- whether the arguments of an action are handed over: their places are lost
+-- Whether the arguments of an action are handed over: their places are lost. A value may be read on behind a drop of one of its
+-- references.
 abbrev pub hands_over : Action → Bool
 hands_over (Compute operation) = false
 hands_over (Branch condition l) = false
+hands_over (Routine Drop) = false
 hands_over Hold = false
 hands_over Unhold = false
 hands_over _ = true

@@ -26,7 +26,7 @@ pub enum Placed {
 
 impl Placed {
     /// The lines over named registers: a program has none.
-    pub fn lines(&self) -> &[Native]
+    pub fn natives(&self) -> &[Native]
         ensures { result.now ≡ placed_natives self.now }
     {
         match self {

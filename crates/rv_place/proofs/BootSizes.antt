@@ -16,7 +16,7 @@ use Rattle.rv_place.specs.declared.words.Words.{Words}
 use Rattle.rv_place.specs.Addresses.{is_silent, is_at_pointer, words_of_action, words_of_line, words_of_lines, words_of_functions, most_entry_words, forms_of, words_of_shift}
 use Rattle.rv_place.specs.declared.reach.Forms.{Forms}
 use Rattle.rv_place.specs.declared.reach.Reach.{Reach}
-use Rattle.rv_place.proofs.CodeLines.{jump_most, name_most, shift_most, branch_most}
+use Rattle.rv_place.proofs.CodeLines.{jump_most, routine_most, name_most, shift_most, branch_most}
 use Rattle.rv_place.proofs.MoveSimulation.{operation_weighs}
 use Rattle.rv_place.proofs.PointerShifts.{to_frame_most}
 use Rattle.rv_place.specs.Texts.{ArePlaceable, most_text_words, most_constant_bytes, text_words, text_bytes, most_bytes, memory_of}
@@ -37,7 +37,7 @@ action_most forms (Branch condition l) args = branch_most forms.jumps forms.bran
 action_most forms (Call f) args = omega (arith, jump_most forms.jumps)
 action_most forms (TailCall f) args = omega (arith, jump_most forms.jumps)
 action_most forms Return args = return_most forms.frame forms.jumps
-action_most forms (Routine routine) args = jump_most forms.jumps
+action_most forms (Routine routine) args = routine_most forms.jumps routine
 action_most forms Hold args = omega (arith, name_most (is_at_pointer forms.jumps args))
 action_most forms Unhold args = omega arith
 

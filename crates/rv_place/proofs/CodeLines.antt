@@ -5,13 +5,16 @@ use Rattle.std.proofs.lemmas.Bool.{or_left, or_right}
 use Rattle.rv_isa.specs.declared.asm.Condition.{Condition}
 use Rattle.rv_isa.specs.declared.instr.Instr.{Instr}
 use Rattle.rv_isa.specs.declared.register.Register.{Register}
+use Rattle.rv_isa.specs.declared.routine.Routine.{Routine}
+use Rattle.rv_isa.specs.declared.routine.Routine.TheVariants.{Take, Drop, PrintInt, PrintText, ReadByte}
+use Rattle.rv_isa.specs.Costs.{routine_length}
 use Rattle.rv_isa.specs.PlacedCode.{PlacedLine, PlacedLines}
 use Rattle.rv_isa.specs.Frames.{Frame, found}
 use Rattle.rv_isa.specs.PlacedMachine.{is_label_line, placed_entered}
 use Rattle.rv_isa.specs.Processor.{Processor}
 use Rattle.rv_isa.specs.Standing.{Code, Stands}
 use Rattle.rv_place.specs.Addresses.{words_of_shift, words_to_frame, words_of_line, words_of_lines, label_address, forms_of, entry_words, needs_frame, takes_frame}
-use Rattle.rv_place.specs.Instructions.{words_to_name, words_of_jump, JumpsBy, words_of_branch, BranchesOn}
+use Rattle.rv_place.specs.Instructions.{words_to_name, words_of_jump, words_of_routine, JumpsBy, words_of_branch, BranchesOn}
 use Rattle.rv_place.specs.Registers.{zero_register}
 use Rattle.rv_place.specs.declared.reach.Forms.{Forms}
 use Rattle.rv_place.specs.declared.reach.Reach.{Reach}
@@ -104,6 +107,20 @@ pub jump_most : (reach : Reach) → words_of_jump reach ≤ 2
 jump_most Near = omega arith
 jump_most Far = omega arith
 jump_most Wide = omega arith
+
+pub routine_some : (reach : Reach) (routine : Routine) → 1 ≤ words_of_routine reach routine
+routine_some reach Take = jump_some reach
+routine_some reach Drop = omega arith
+routine_some reach PrintInt = jump_some reach
+routine_some reach PrintText = jump_some reach
+routine_some reach ReadByte = jump_some reach
+
+pub routine_most : (reach : Reach) (routine : Routine) → words_of_routine reach routine ≤ routine_length routine
+routine_most reach Take = jump_most reach
+routine_most reach Drop = omega (arith, jump_most reach)
+routine_most reach PrintInt = jump_most reach
+routine_most reach PrintText = jump_most reach
+routine_most reach ReadByte = jump_most reach
 
 pub name_most : (at_pointer : Bool) → words_to_name at_pointer ≤ 2
 name_most true = omega arith

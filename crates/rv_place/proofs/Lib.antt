@@ -13,6 +13,8 @@ pub mod MoveSimulation
 pub mod CellSimulation
 pub mod JumpSimulation
 pub mod RoutineSimulation
+pub mod DropSimulation
+pub mod RoutineActions
 pub mod TokenSimulation
 pub mod TokenWords
 pub mod ProcessorSimulation

@@ -24,7 +24,7 @@ use Rattle.rv_isa.specs.PlacedCode.{PlacedLine, moves, PlacedLines}
 use Rattle.rv_isa.specs.Standing.{Code}
 use Rattle.rv_isa.proofs.RangeEquality.{same_register}
 use Rattle.rv_place.specs.Registers.{s3}
-use Rattle.rv_place.specs.Instructions.{words_of_jump, JumpsTo, CallsTo, BranchesOn, HoldsToken, words_to_hold, UnholdsToken, words_of_operation}
+use Rattle.rv_place.specs.Instructions.{words_of_jump, JumpsTo, CallsTo, CallsRoutine, words_of_routine, BranchesOn, HoldsToken, words_to_hold, UnholdsToken, words_of_operation}
 use Rattle.rv_isa.specs.FrameSizes.{slots_of_place, slots_of_operands}
 use Rattle.rv_place.specs.Addresses.{branch_words, is_at_pointer, slot_offset, way_offset, words_of_shift, words_of_action, words_of_line, words_of_lines, forms_of, takes_frame, words_to_frame, entry_words, skipped_words, entries_from, words_of_function, words_of_functions}
 use Rattle.rv_place.specs.Lines.{Map, IsFromPointer, IsOffsetOf, token_into, OnToken, IsSymbolAt, frame_register, BeginsAt, LinesAt, FunctionsAt, BranchesTo}
@@ -33,9 +33,9 @@ use Rattle.rv_place.specs.declared.reach.Reach.{Reach}
 use Rattle.rv_place.specs.declared.reach.Reach.TheVariants.{Near, Far}
 use Rattle.rv_place.specs.declared.chart.Chart.{Chart}
 use Rattle.rv_place.specs.declared.labels.Labels.{Labels}
-use Rattle.rv_place.specs.Emitted.{Grew, TokenBy, Charts, JumpReaches, BranchReaches, IsInText, IsInFunction, AreSymbols, IsAddressOf, register_or_zero, ReturnBy, HasLabels, OperationBy, ActionBy, LineBy, LinesBy, MoveBy, EntryBy, FunctionBy, FunctionsBy}
+use Rattle.rv_place.specs.Emitted.{Grew, TokenBy, Charts, JumpReaches, RoutineReaches, BranchReaches, IsInText, IsInFunction, AreSymbols, IsAddressOf, register_or_zero, ReturnBy, HasLabels, OperationBy, ActionBy, LineBy, LinesBy, MoveBy, EntryBy, FunctionBy, FunctionsBy}
 use Rattle.rv_place.proofs.Emissions.{grew_so, grew_then}
-use Rattle.rv_place.proofs.NearJumps.{short_function, jump_reaches, text_reaches, label_reaches, branch_reaches, function_front, function_back, text_front, text_back}
+use Rattle.rv_place.proofs.NearJumps.{short_function, jump_reaches, text_reaches, routine_reaches, label_reaches, branch_reaches, function_front, function_back, text_front, text_back}
 use Rattle.rv_place.proofs.JumpInstructions.{BranchGrew}
 use Rattle.rv_place.proofs.Operands.{register_in, operand_register, register_of_into}
 
@@ -158,15 +158,17 @@ module _ (chart : Chart) (labels : Labels) (from : ℕ) (args : List Operand) (i
 
     pub on_routine : {of : routine.Routine} {word : ℕ} → action ≡ Routine of
         → ((runtime : ℕ) (labels : List (Symbol × ℕ)) → AreSymbols runtime labels chart.symbols → IsAddressOf runtime labels (symbol.Routine of) word)
-        → Grew (words_of_jump jumps) (λ code at. at ≡ from → JumpReaches jumps at word → CallsTo jumps code at word) old new → Acted old new action
+        → Grew (words_of_routine jumps of) (λ code at. at ≡ from → RoutineReaches jumps of at word → CallsRoutine jumps code at of word) old new → Acted old new action
     on_routine {of} {word} is word_is emitted =
         subst (Acted old new) (sym is)
         (grew_so refl
         (λ code at here is_at map charts start whole has inside target there.
         let high = charts.symbols_in (symbol.Routine of) there.0 there.1 in
         let target_is : target ≡ map.runtime + 4 * there.0 = there.2 in
-        calls_to code at word target is_at here (word_is map.runtime map.labels charts.symbols there.0 there.1 ∙ sym target_is)
-        (text_reaches charts inside target (omega (arith, target_is, charts.first_word)) (omega (arith, target_is)) (omega (arith, target_is, high))))
+        let same : word ≡ target = word_is map.runtime map.labels charts.symbols there.0 there.1 ∙ sym target_is in
+        subst (CallsRoutine jumps code at of) same
+        (here is_at (subst (RoutineReaches jumps of at) (sym same)
+        (routine_reaches charts inside of (omega arith) target (omega (arith, target_is, charts.first_word)) (omega (arith, target_is)) (omega (arith, target_is, high))))))
         emitted)
 
     pub on_hold : {token : Register} → action ≡ Hold → token ≡ register_or_zero (slice_get args 1) → 4 * slots_of_operands args + 4 ≤ chart.frame

@@ -20,7 +20,7 @@ use Rattle.rv_place.specs.LineAddresses.{address_in, line_address}
 use Rattle.rv_place.specs.Lines.{Map, FunctionsAt}
 use Rattle.rv_place.specs.declared.reach.Forms.{Forms}
 use Rattle.rv_place.specs.declared.reach.Reach.{Reach}
-use Rattle.rv_place.proofs.CodeLines.{jump_some, branch_some, function_found}
+use Rattle.rv_place.proofs.CodeLines.{jump_some, routine_some, branch_some, function_found}
 use Rattle.rv_place.proofs.MoveSimulation.{operation_weighs}
 
 -- ---- the lines of a function
@@ -45,7 +45,7 @@ action_some forms (Branch condition l) args some = branch_some forms.jumps forms
 action_some forms (Call f) args some = jump_some forms.jumps
 action_some forms (TailCall f) args some = jump_some forms.jumps
 action_some forms Return args some = return_some forms.frame forms.jumps
-action_some forms (Routine routine) args some = jump_some forms.jumps
+action_some forms (Routine routine) args some = routine_some forms.jumps routine
 action_some forms Hold args some = omega arith
 action_some forms Unhold args some = omega arith
 

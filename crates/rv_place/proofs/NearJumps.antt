@@ -2,16 +2,18 @@
 use Rattle.std.proofs.Common.{◌≡◌, ℕ, ◌+◌, ◌*◌, ◌%◌, ◌≤◌, ◌<◌, List, [], ◌∷◌, Option, Some, Bool, true, false, cond}
 use Rattle.std.proofs.Common.{nat_lt, refl, sym, ap, arith}
 use Rattle.std.proofs.lemmas.Bool.Decides.{nat_tests}
+use Rattle.rv_isa.specs.declared.routine.Routine.{Routine}
+use Rattle.rv_isa.specs.declared.routine.Routine.TheVariants.{Take, Drop, PrintInt, PrintText, ReadByte}
 use Rattle.rv_isa.specs.PlacedCode.{PlacedLine}
 use Rattle.rv_isa.specs.PlacedMachine.{is_label_line}
 use Rattle.rv_place.specs.declared.chart.Chart.{Chart}
 use Rattle.rv_place.specs.declared.reach.Forms.{Forms}
 use Rattle.rv_place.specs.declared.reach.Reach.{Reach}
 use Rattle.rv_place.specs.declared.reach.Reach.TheVariants.{Near, Far, Wide}
-use Rattle.rv_place.specs.Instructions.{words_of_jump, words_of_branch}
+use Rattle.rv_place.specs.Instructions.{words_of_jump, words_of_branch, words_of_routine}
 use Rattle.rv_place.specs.Addresses.{words_of_line, words_of_lines, label_address, reach_of, branch_words, forms_of, takes_frame}
 use Rattle.rv_place.specs.Lines.{Map}
-use Rattle.rv_place.specs.Emitted.{Charts, JumpReaches, BranchReaches, IsInText, IsInFunction}
+use Rattle.rv_place.specs.Emitted.{Charts, JumpReaches, RoutineReaches, BranchReaches, IsInText, IsInFunction}
 
 -- ---- near is short
 
@@ -89,6 +91,17 @@ module _ {chart : Chart} {map : Map} (charts : Charts chart map) where
     text_reaches target word low high =
         jump_reaches forms.jumps inside.jumps at target inside.word word (omega (arith, inside.low, inside.text.low))
         (omega (arith, inside.high, inside.text.high)) low high
+
+    -- that of a call of a routine
+    pub routine_reaches : (routine : Routine) → words_of_routine forms.jumps routine ≤ words → (target : ℕ) → target % 4 ≡ 0
+        → map.runtime ≤ target → target ≤ map.constants.first → RoutineReaches forms.jumps routine at target
+    routine_reaches Drop few target word low high =
+        jump_reaches forms.jumps inside.jumps (at + 24) target (omega (arith, inside.word)) word
+        (omega (arith, inside.low, inside.text.low)) (omega (arith, inside.high, inside.text.high, few)) low high
+    routine_reaches Take few target word low high = text_reaches target word low high
+    routine_reaches PrintInt few target word low high = text_reaches target word low high
+    routine_reaches PrintText few target word low high = text_reaches target word low high
+    routine_reaches ReadByte few target word low high = text_reaches target word low high
 
     -- and to a label of its own
     pub label_reaches : (l target : ℕ) → label_address forms l start whole ≡ Some target → JumpReaches forms.jumps at target

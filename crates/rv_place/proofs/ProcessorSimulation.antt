@@ -32,7 +32,7 @@ use Rattle.rv_place.proofs.TargetRegisters.{move_target, gives_target, gives_som
 use Rattle.rv_place.proofs.MoveSimulation.{follow_label, follow_silent, follow_move}
 use Rattle.rv_place.proofs.CellSimulation.{follow_compute}
 use Rattle.rv_place.proofs.JumpSimulation.{follow_jump, follow_branch, follow_tail_call, follow_call, follow_return}
-use Rattle.rv_place.proofs.RoutineSimulation.{follow_routine}
+use Rattle.rv_place.proofs.RoutineActions.{follow_routine}
 use Rattle.rv_place.proofs.TokenSimulation.{follow_hold, follow_unhold}
 
 cond_true : {S H W : Type 0} (test : Bool) (next turn : Turn S H W) → cond test next stuck ≡ turn → turn ≢ stuck → (test ≡ true) × (next ≡ turn)
@@ -102,8 +102,9 @@ module _ {map_of : Map} {pool : Pool} {functions : List PlacedLines} {depth buff
           (subst (λ frame. ReturnsBy frame map_of code s.pc) (ap (λ (forms : Forms). forms.frame) running.frames.0.forms_are) (line_at running.frames.0 (does alive Return args into) rest code_is loud)) fs rest args into words turn running conform words_are is good
       follow_action (Routine routine) code_is conform loud is =
           let line = does alive (Routine routine) args into in
-          follow_routine ground f fs known world s running rest (suc (length rest)) running.frames.0.forms (line_takes running.frames.0 line rest code_is refl) (λ next next_is below. goes_behind running.frames.0 line rest code_is next (record f { code = rest }) refl refl refl (loud_words (Routine routine) loud ∙ next_is) below) into turn good
-          routine running.frames.0.start args words (line_at running.frames.0 line rest code_is loud) conform words_are is
+          follow_routine ground f fs known world s running rest (suc (length rest)) running.frames.0.forms (line_takes running.frames.0 line rest code_is refl) routine
+          (λ next next_is below. goes_behind running.frames.0 line rest code_is next (record f { code = rest }) refl refl refl (loud_words (Routine routine) loud ∙ next_is) below) into turn good
+          running.frames.0.start args words (line_at running.frames.0 line rest code_is loud) conform words_are is
       follow_action Hold code_is conform loud is =
           let line = does alive Hold args into in
           follow_hold ground f fs known world s running rest (suc (length rest)) (line_takes running.frames.0 line rest code_is refl) args into words turn good words_are

@@ -2,7 +2,7 @@
 use Rattle.std.proofs.Common.{◌≡◌, ◌≢◌, ◌==◌, ◌≤◌, ◌<◌, ◌&&◌, ◌⊎◌, inl, inr, ℕ, zero, suc, ◌+◌, ◌-◌, ◌%◌, ◌^◌, List, [], ◌∷◌, ◌++◌, length, take, drop, Option, Some, None, option_map, Bool, true, false, All, cond, map, nat_lt, nat_le, slice_get, if◌then◌else◌, refl, sym, ap, ◌∙◌, subst, arith, lit<, ◌*◌}
 use Rattle.std.specs.List.{list_any}
 use Rattle.std.proofs.Math.Seq.{drop-append_seam, take-append_seam}
-use Rattle.std.proofs.lemmas.Bool.{and_parts, or_parts, eqb-true, eqb-false}
+use Rattle.std.proofs.lemmas.Bool.{or_parts, eqb-true, eqb-false}
 use Rattle.std.proofs.lemmas.Bool.Decides.{nat_tests}
 use Rattle.std.proofs.lemmas.List.Elements.{All-head, All-tail}
 use Rattle.kk_base.specs.Memory.{Part}
@@ -19,31 +19,24 @@ use Rattle.rv_isa.specs.declared.placed.Place.TheVariants.{Register as register,
 use Rattle.rv_isa.specs.declared.placed.Operand.{Operand}
 use Rattle.rv_isa.specs.PlacedCode.{PlacedLine, PlacedLines}
 use Rattle.rv_isa.specs.Arithmetic.{signed}
-use Rattle.rv_isa.specs.Conventions.{one_register, is_in, is_in_any, argument, conforms, takes_at, take_from, gives_into}
+use Rattle.rv_isa.specs.Conventions.{one_register, is_in, is_in_any, argument, takes_at, take_from, gives_into}
 use Rattle.rv_isa.specs.Routines.{spoilt_by, given_by, is_spoilt_by}
 use Rattle.rv_isa.specs.Primitives.{answers, fails, go, stuck, or_stuck}
 use Rattle.rv_isa.specs.Frames.{Frame, put, all_of, top, top_taken}
-use Rattle.rv_isa.specs.PlacedMachine.{PlacedTurn, read_at, kept_by, passed, placed_goes, placed_gives, placed_writes, placed_answered, placed_served, placed_acts}
+use Rattle.rv_isa.specs.PlacedMachine.{PlacedTurn, read_at, kept_by, passed, placed_goes, placed_gives, placed_writes, placed_answered, placed_served}
 use Rattle.rv_isa.specs.Bytes.{bytes_at, number_at}
 use Rattle.rv_isa.specs.Processor.{Processor, Ending, exited, value, can_store}
 use Rattle.rv_isa.specs.Standing.{Code}
 use Rattle.rv_isa.proofs.Bytes.{length-bytes_at, bytes_at-same}
 use Rattle.rv_isa.proofs.Memory.{bytes_at-add, number_at-same}
 use Rattle.rv_isa.proofs.Standing.{Stands-leads}
-use Rattle.cell_heap.specs.Cells.{counted}
-use Rattle.cell_heap.specs.Pool.{end_of, IsCell, places}
+use Rattle.cell_heap.specs.Pool.{end_of, IsCell}
 use Rattle.cell_heap.specs.View.{Link}
-use Rattle.cell_heap.specs.Memory.{IsHeldChain, IsNoCount}
-use Rattle.cell_heap.specs.Counts.{credit}
-use Rattle.cell_heap.specs.Turns.{Work}
-use Rattle.cell_heap.specs.Blocks.{Cells, seen_cells, view_of, takes, request_by, request, drop_cells, merged_cells}
-use Rattle.cell_heap.proofs.Frames.{shown-cell, cell-inside}
-use Rattle.cell_heap.proofs.RoutineTurns.{turns_taken_first}
-use Rattle.cell_heap.proofs.MemoryAfterDrop.{drop-holds}
+use Rattle.cell_heap.specs.Memory.{IsHeldChain}
+use Rattle.cell_heap.specs.Blocks.{Cells, seen_cells, view_of, takes, request_by, request}
 use Rattle.cell_heap.specs.ProgramMemory.{HoldsCells, SameRoots}
 use Rattle.cell_heap.proofs.Blocks.{outside-holds}
 use Rattle.cell_runtime.specs.Takes.{IsFull, EmptiesSlot}
-use Rattle.cell_runtime.specs.Drops.{Dropped}
 use Rattle.cell_runtime.proofs.Blocks.{word_kept, TakenBlock, of_free, of_link, take_blocks}
 use Rattle.cell_runtime.specs.Registers.{IsOutside, own_of, KeptBy}
 use Rattle.cell_runtime.specs.Calls.{IsAt, HasWayBack, Returns, KeepsOutside, Exits}
@@ -51,12 +44,12 @@ use Rattle.cell_runtime.specs.Prints.{put_of, buffer_bytes, int_piece, int_count
 use Rattle.cell_runtime.specs.Operations.{Constants, all_bytes}
 use Rattle.cell_runtime.specs.Operations as OfConstants
 use Rattle.cell_heap.specs.Pool.{Pool}
-use Rattle.cell_runtime.specs.World.{World, with_cells, primitives, told_more, takes_cell, gives_up, drop_count, print_bytes, read_next, served, lasts}
+use Rattle.cell_runtime.specs.World.{World, with_cells, told_more, takes_cell, print_bytes, read_next, served, lasts}
 use Rattle.rv_place.specs.Registers.{ra}
 use Rattle.rv_place.specs.Instructions.{words_of_jump, CallsTo}
 use Rattle.rv_place.specs.Addresses.{takes_frame, frame_bias}
 use Rattle.rv_place.specs.declared.reach.Forms.{Forms}
-use Rattle.rv_place.specs.Lines.{Map, IsSymbolAt, ActsAt}
+use Rattle.rv_place.specs.Lines.{Map, IsSymbolAt}
 use Rattle.rv_place.specs.Grounds.{Ground, stack_end, constant_bytes}
 use Rattle.rv_place.specs.ProcessorStates.{most_lines, IsIn, FramesAt, links_of, Agrees, Running}
 use Rattle.rv_place.proofs.PassedInstructions.{Walks, walks_done, walks_then, stands_part, returns_walk, passes_to_exit}
@@ -70,18 +63,18 @@ use Rattle.rv_place.proofs.LineOutcomes.{Comes, comes_go, comes_ended, framed_ba
 
 -- ---- registers that a routine keeps
 
-outside_spoilt : (x : ℕ) (spoilt : List ℕ) → list_any (λ y. y == x) spoilt ≡ false → IsOutside x spoilt
+pub outside_spoilt : (x : ℕ) (spoilt : List ℕ) → list_any (λ y. y == x) spoilt ≡ false → IsOutside x spoilt
 outside_spoilt x [] none = tt
 outside_spoilt x (y ∷ ys) none =
     let both = or_parts (y == x) (list_any (λ y. y == x) ys) none in
     ((λ e. eqb-false y x both.0 (sym e)), outside_spoilt x ys both.1)
 
-outside_both : (x : ℕ) (front back : List ℕ) → IsOutside x front → IsOutside x back → IsOutside x (front ++ back)
+pub outside_both : (x : ℕ) (front back : List ℕ) → IsOutside x front → IsOutside x back → IsOutside x (front ++ back)
 outside_both x [] back out later = later
 outside_both x (y ∷ front) back out later = (out.0, outside_both x front back out.1 later)
 
 -- the registers of the runtime that a routine may change
-outside_own_of : (routine : Called) (x : ℕ) → is_own x ≡ false → IsOutside x (own_of routine)
+pub outside_own_of : (routine : Called) (x : ℕ) → is_own x ≡ false → IsOutside x (own_of routine)
 outside_own_of routine x none =
     let first = or_parts (x == 8) _ none in
     let second = or_parts (x == 9) _ first.1 in
@@ -96,14 +89,14 @@ outside_own_of routine x none =
     by ReadByte a b c = tt
 
 -- none changes the one that holds 1
-unspoilt_one : (routine : Called) → is_spoilt_by routine one_register ≡ false
+pub unspoilt_one : (routine : Called) → is_spoilt_by routine one_register ≡ false
 unspoilt_one Take = refl
 unspoilt_one Drop = refl
 unspoilt_one PrintInt = refl
 unspoilt_one PrintText = refl
 unspoilt_one ReadByte = refl
 
-known_kept : (test : Bool) (other : Option ℕ) (w : ℕ) → cond test None other ≡ Some w → (test ≡ false) × (other ≡ Some w)
+pub known_kept : (test : Bool) (other : Option ℕ) (w : ℕ) → cond test None other ≡ Some w → (test ≡ false) × (other ≡ Some w)
 known_kept true other w is = cc
 known_kept false other w is = (refl, is)
 
@@ -280,12 +273,12 @@ module _ {map_of : Map} {pool : Pool} {functions : List PlacedLines} {depth buff
 
   -- ---- arguments and results
 
-  two_taken : (k : ℕ) (place : Place) → is_in_any (slice_get (10 ∷ 11 ∷ []) k) place ≡ true → is_in (argument k) place ≡ true
+  pub two_taken : (k : ℕ) (place : Place) → is_in_any (slice_get (10 ∷ 11 ∷ []) k) place ≡ true → is_in (argument k) place ≡ true
   two_taken zero place is = is
   two_taken (suc zero) place is = is
   two_taken (suc (suc k)) place is = cc
 
-  one_taken : (k : ℕ) (place : Place) → is_in_any (slice_get (10 ∷ []) k) place ≡ true → is_in (argument k) place ≡ true
+  pub one_taken : (k : ℕ) (place : Place) → is_in_any (slice_get (10 ∷ []) k) place ≡ true → is_in (argument k) place ≡ true
   one_taken zero place is = is
   one_taken (suc k) place is = cc
 
@@ -296,13 +289,13 @@ module _ {map_of : Map} {pool : Pool} {functions : List PlacedLines} {depth buff
   abbrev pub PassesHeld : List ℕ → Type 0
   PassesHeld words = (x w : ℕ) → passed 0 words x ≡ Some w → (value s.registers x ≡ w) × (w < 2 ^ 32)
 
-  held_words : (action : Action) (args : List Operand) (words : List ℕ) → ((k : ℕ) (place : Place) → takes_at action k place ≡ true → is_in (argument k) place ≡ true) → take_from action 0 args ≡ true
+  pub held_words : (action : Action) (args : List Operand) (words : List ℕ) → ((k : ℕ) (place : Place) → takes_at action k place ≡ true → is_in (argument k) place ≡ true) → take_from action 0 args ≡ true
       → all_of (map (λ (arg : Operand). read_at known f.cells arg.place) args) ≡ Some words → PassesHeld words
   held_words action args words takes taken words_are x w is =
       let holds = running.registers x w (passed_known known f.cells s.registers running.registers action 0 args words takes taken words_are x w is) in (holds.1, holds.2)
 
   -- a routine that gives no word
-  gives_none : (routine : Called) → given_by routine ≡ None → (into : Option Operand) → gives_into (Routine routine) into ≡ true → (word : ℕ) (known' : ℕ → Option ℕ) (world' : World) → (t : PlacedTurn World Ending)
+  pub gives_none : (routine : Called) → given_by routine ≡ None → (into : Option Operand) → gives_into (Routine routine) into ≡ true → (word : ℕ) (known' : ℕ → Option ℕ) (world' : World) → (t : PlacedTurn World Ending)
       → placed_gives into word behind fs known' world' ≡ t → placed_goes behind fs known' world' ≡ t
   gives_none routine none None gives word known' world' t is = is
   gives_none routine none (Some into) gives word known' world' t is =
@@ -354,7 +347,7 @@ module _ {map_of : Map} {pool : Pool} {functions : List PlacedLines} {depth buff
     print_int_by word choice false small true fitting word_is choice_is calls gives is = absurd (good (sym is))
     print_int_by word choice small small_is false fitting word_is choice_is calls gives is = absurd (good (sym is))
 
-    print_int_words : (words : List ℕ) (held : Option ℕ) → PassesHeld words → CallsTo forms.jumps code s.pc ground.print_int.0 → gives_into (Routine PrintInt) into ≡ true
+    pub print_int_words : (words : List ℕ) (held : Option ℕ) → PassesHeld words → CallsTo forms.jumps code s.pc ground.print_int.0 → gives_into (Routine PrintInt) into ≡ true
         → placed_served into (behind ∷ fs) (kept_by (Routine PrintInt) known) (served map_of.constants pool PrintInt words held world) ≡ turn
         → Comes map_of pool functions depth stop code parts (2 + lasts pool PrintInt words held world) old turn s
     print_int_words [] held passes calls gives is = absurd (good (sym is))
@@ -399,7 +392,7 @@ module _ {map_of : Map} {pool : Pool} {functions : List PlacedLines} {depth buff
         (gives_none PrintText refl into gives 0 (kept_by (Routine PrintText) known) (told_more (put_of bytes) world) turn is)
         (print_text_comes at count bytes at_is count_is at_fits count_fits bytes_are calls)
 
-    print_text_words : (words : List ℕ) (held : Option ℕ) → PassesHeld words → CallsTo forms.jumps code s.pc ground.print_text.0 → gives_into (Routine PrintText) into ≡ true
+    pub print_text_words : (words : List ℕ) (held : Option ℕ) → PassesHeld words → CallsTo forms.jumps code s.pc ground.print_text.0 → gives_into (Routine PrintText) into ≡ true
         → placed_served into (behind ∷ fs) (kept_by (Routine PrintText) known) (served map_of.constants pool PrintText words held world) ≡ turn → Comes map_of pool functions depth stop code parts 8 old turn s
     print_text_words [] held passes calls gives is = absurd (good (sym is))
     print_text_words (at ∷ []) held passes calls gives is = absurd (good (sym is))
@@ -467,7 +460,7 @@ module _ {map_of : Map} {pool : Pool} {functions : List PlacedLines} {depth buff
         let left_is : c.left ≡ world.left = start.called.done.left_is ∙ running.left in
         read_by world.left start taken.0 (subst (λ left. TakesNext ground.own left c taken.0) left_is taken.1.takes) running.left (keeps_from 1 c taken.0 (omega arith) start.called.done.memory_is taken.1.memory) gives is
 
-    read_byte_words : (words : List ℕ) (held : Option ℕ) → CallsTo forms.jumps code s.pc ground.read_byte.0 → gives_into (Routine ReadByte) into ≡ true
+    pub read_byte_words : (words : List ℕ) (held : Option ℕ) → CallsTo forms.jumps code s.pc ground.read_byte.0 → gives_into (Routine ReadByte) into ≡ true
         → placed_served into (behind ∷ fs) (kept_by (Routine ReadByte) known) (served map_of.constants pool ReadByte words held world) ≡ turn → Comes map_of pool functions depth stop code parts 12 old turn s
     read_byte_words [] held calls gives is = read_byte_comes calls gives is
     read_byte_words (word ∷ words) held calls gives is = absurd (good (sym is))
@@ -610,81 +603,7 @@ module _ {map_of : Map} {pool : Pool} {functions : List PlacedLines} {depth buff
           | inr full ↦ take_full start full.0 full.1 is
         ]
 
-    take_words : (words : List ℕ) → CallsTo forms.jumps code s.pc ground.take.0 → gives_into (Routine Take) into ≡ true
+    pub take_words : (words : List ℕ) → CallsTo forms.jumps code s.pc ground.take.0 → gives_into (Routine Take) into ≡ true
         → placed_served into (behind ∷ fs) (kept_by (Routine Take) known) (served map_of.constants pool Take words (top (f ∷ fs)) world) ≡ turn → Comes map_of pool functions depth stop code parts 10 old turn s
     take_words [] calls gives is = take_comes calls gives is
     take_words (word ∷ words) calls gives is = absurd (good (sym is))
-
-    -- ---- drop
-
-    -- no byte behind the cells, and none of a constant, is one of a count
-    behind_counts : (x : ℕ) → end_of pool ≤ x → IsNoCount (seen_cells world.cells) x
-    behind_counts x high at count body is =
-        let memory = running.cells.memory in
-        let cell = shown-cell memory.shown at (counted count body) is (λ e. cc) in
-        inr (omega (arith, cell-inside pool at memory.usable.aligned cell, high))
-
-    constant_counts : (x : ℕ) → map_of.constants.first ≤ x → x < map_of.constants.first + constant_bytes map_of → IsNoCount (seen_cells world.cells) x
-    constant_counts x low high at count body is =
-        let memory = running.cells.memory in
-        let cell = shown-cell memory.shown at (counted count body) is (λ e. cc) in
-        let inside = cell-inside pool at memory.usable.aligned cell in
-        let allowed = subst (λ p. can_store p at 4 ≡ true) running.rests.parts_are (memory.usable.stores at cell.behind (omega arith)) in
-        elim (ground.constants_kept at 4 allowed (lit< tt)) [ inl before ↦ inl (omega arith) | inr after ↦ inr (omega arith) ]
-
-    drop_comes : (reference : ℕ) (work : Work) → value s.registers 10 ≡ reference → drop_cells pool reference world.cells ≡ Some work → CallsTo forms.jumps code s.pc ground.give_up.0
-        → Comes map_of pool functions depth stop code parts (2 + (8 * work.gave + 52 * work.freed + 5)) old (placed_goes behind fs (kept_by (Routine Drop) known) (with_cells world (merged_cells work world.cells))) s
-    drop_comes reference work word_is work_is calls =
-        let start = begins (symbol.Routine Drop) ground.give_up.0 ground.give_up.1 calls in
-        let c = start.called.after in
-        let holds = cells_begin start in
-        let turns = turns_taken_first (2 + credit 1 1 (places pool) (seen_cells world.cells)) work (reference ∷ []) world.cells.frees (seen_cells world.cells) work_is in
-        let dropped : Dropped = record { gave = work.gave; freed = work.freed; frees = work.frees; heap = work.heap } in
-        let done = ground.give_up.2 pool reference (view_of world.cells links_here) dropped c start.is_at (record { way_back = start.way_back; reference_is = start.same 10 (λ e. cc) ∙ word_is; memory = holds.memory; turns = turns }) in
-        let t = done.0 in
-        let after = done.1 in
-        let back_at = back Drop start after.count t after.returns in
-        let others : (x : ℕ) → IsNoCount (seen_cells world.cells) x → t.memory x ≡ s.memory x = λ x none. after.others x none ∙ ap (λ (m : ℕ → ℕ). m x) start.called.done.memory_is in
-        let low = sp_low ground f fs known world s running in
-        let under = ground.cells_below in
-        let stand = frames_kept map_of code (most_lines functions) stop (stack_end map_of depth) ground.some_frame s.memory t.memory (s.pc + 4 * words_of_jump forms.jumps) running.base (behind ∷ fs)
-        (λ x above high. number_at-same t.memory s.memory x 4 (λ y from below. others y (behind_counts y (omega arith)))) (waits_behind start.way_fits) in
-        cells_come (2 + (8 * work.gave + 52 * work.freed + 5)) (merged_cells work world.cells) t (behind ∷ fs) (kept_by (Routine Drop) known) back_at refl (omega (arith, after.bounded)) stand refl
-        (bytes_at-same t.memory s.memory map_of.constants.first (constant_bytes map_of) (λ x low high. others x (constant_counts x low high)))
-        (after.trace ∙ start.called.done.trace_is) (after.left ∙ start.called.done.left_is) (kept_agree Drop t back_at) (drop-holds holds work turns after.memory after.others)
-
-    drop_by : (reference : ℕ) (work : Option Work) → value s.registers 10 ≡ reference → drop_cells pool reference world.cells ≡ work → CallsTo forms.jumps code s.pc ground.give_up.0 → gives_into (Routine Drop) into ≡ true
-        → placed_served into (behind ∷ fs) (kept_by (Routine Drop) known) (gives_up work world) ≡ turn → Comes map_of pool functions depth stop code parts (2 + drop_count work) old turn s
-    drop_by reference None word_is work_is calls gives is = absurd (good (sym is))
-    drop_by reference (Some work) word_is work_is calls gives is =
-        subst (λ t. Comes map_of pool functions depth stop code parts (2 + (8 * work.gave + 52 * work.freed + 5)) old t s)
-        (gives_none Drop refl into gives 0 (kept_by (Routine Drop) known) (with_cells world (merged_cells work world.cells)) turn is) (drop_comes reference work word_is work_is calls)
-
-    drop_words : (words : List ℕ) (held : Option ℕ) → PassesHeld words → CallsTo forms.jumps code s.pc ground.give_up.0 → gives_into (Routine Drop) into ≡ true
-        → placed_served into (behind ∷ fs) (kept_by (Routine Drop) known) (served map_of.constants pool Drop words held world) ≡ turn
-        → Comes map_of pool functions depth stop code parts (2 + lasts pool Drop words held world) old turn s
-    drop_words [] held passes calls gives is = absurd (good (sym is))
-    drop_words (reference ∷ other ∷ words) held passes calls gives is = absurd (good (sym is))
-    drop_words (reference ∷ []) held passes calls gives is = drop_by reference (drop_cells pool reference world.cells) (passes 10 reference refl).0 refl calls gives is
-
-    -- ---- all routines
-
-    pub follow_routine : (routine : Called) (start : ℕ) (args : List Operand) (words : List ℕ) → ActsAt map_of forms code start f.whole s.pc (Routine routine) args into → conforms (Routine routine) args into ≡ true
-        → all_of (map (λ (arg : Operand). read_at known f.cells arg.place) args) ≡ Some words
-        → placed_acts (primitives map_of.constants pool) depth functions behind fs known world (Routine routine) args into words ≡ turn
-        → Comes map_of pool functions depth stop code parts (2 + lasts pool routine words (top (f ∷ fs)) world) old turn s
-    follow_routine PrintInt start args words here conform words_are is =
-        let fit = and_parts (take_from (Routine PrintInt) 0 args) (gives_into (Routine PrintInt) into) conform in
-        print_int_words words (top (f ∷ fs)) (held_words (Routine PrintInt) args words two_taken fit.0 words_are) (here ground.print_int.0 ground.print_int.1) fit.1 is
-    follow_routine PrintText start args words here conform words_are is =
-        let fit = and_parts (take_from (Routine PrintText) 0 args) (gives_into (Routine PrintText) into) conform in
-        print_text_words words (top (f ∷ fs)) (held_words (Routine PrintText) args words two_taken fit.0 words_are) (here ground.print_text.0 ground.print_text.1) fit.1 is
-    follow_routine ReadByte start args words here conform words_are is =
-        let fit = and_parts (take_from (Routine ReadByte) 0 args) (gives_into (Routine ReadByte) into) conform in
-        read_byte_words words (top (f ∷ fs)) (here ground.read_byte.0 ground.read_byte.1) fit.1 is
-    follow_routine Take start args words here conform words_are is =
-        let fit = and_parts (take_from (Routine Take) 0 args) (gives_into (Routine Take) into) conform in
-        take_words words (here ground.take.0 ground.take.1) fit.1 is
-    follow_routine Drop start args words here conform words_are is =
-        let fit = and_parts (take_from (Routine Drop) 0 args) (gives_into (Routine Drop) into) conform in
-        drop_words words (top (f ∷ fs)) (held_words (Routine Drop) args words one_taken fit.0 words_are) (here ground.give_up.0 ground.give_up.1) fit.1 is

@@ -19,7 +19,7 @@ use Rattle.rv_isa.specs.PlacedMachine.{is_label_line, first_slot}
 use Rattle.rv_isa.specs.Conventions.{is_idle}
 use Rattle.rv_isa.specs.LinePlaces.{is_copy}
 use Rattle.rv_isa.specs.Sizes.{reach_down, narrow_frame, wide_frame}
-use Rattle.rv_place.specs.Instructions.{words_of_operation, words_of_jump, words_of_branch, words_to_hold}
+use Rattle.rv_place.specs.Instructions.{words_of_operation, words_of_jump, words_of_branch, words_of_routine, words_to_hold}
 use Rattle.rv_place.specs.declared.reach.Forms.{Forms}
 use Rattle.rv_place.specs.declared.reach.Reach.{Reach}
 use Rattle.rv_place.specs.declared.reach.Reach.TheVariants.{Near, Far, Wide}
@@ -100,7 +100,7 @@ words_of_action forms (Branch condition l) args = words_of_branch forms.jumps fo
 words_of_action forms (Call f) args = words_of_jump forms.jumps
 words_of_action forms (TailCall f) args = words_of_jump forms.jumps
 words_of_action forms Return args = words_of_return forms
-words_of_action forms (Routine routine) args = words_of_jump forms.jumps
+words_of_action forms (Routine routine) args = words_of_routine forms.jumps routine
 words_of_action forms Hold args = words_to_hold (is_at_pointer forms.jumps args)
 words_of_action forms Unhold args = 3
 

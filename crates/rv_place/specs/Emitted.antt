@@ -16,6 +16,7 @@ use Rattle.rv_isa.specs.declared.placed.Place.TheVariants.{Register as register,
 use Rattle.rv_isa.specs.declared.placed.Way.{Way}
 use Rattle.rv_isa.specs.declared.placed.Symbol.{Symbol}
 use Rattle.rv_isa.specs.declared.placed.Symbol.TheVariants as symbol
+use Rattle.rv_isa.specs.declared.routine.Routine.{Routine}
 use Rattle.rv_isa.specs.declared.routine.Routine.TheVariants.{Take, Drop, PrintInt, PrintText, ReadByte}
 use Rattle.rv_isa.specs.PlacedCode.{PlacedLine, PlacedLines}
 use Rattle.rv_isa.specs.Standing.{Code, Has}
@@ -71,6 +72,14 @@ abbrev pub JumpReaches : Reach → ℕ → ℕ → Type 0
 JumpReaches Near at target = AreNear (4 * jump_words) at target
 JumpReaches Far at target = Unit {0}
 JumpReaches Wide at target = Unit {0}
+
+-- and so does the jump of a call of a routine, behind what stands before it
+abbrev pub RoutineReaches : Reach → Routine → ℕ → ℕ → Type 0
+RoutineReaches jumps Drop at target = JumpReaches jumps (at + 24) target
+RoutineReaches jumps Take at target = JumpReaches jumps at target
+RoutineReaches jumps PrintInt at target = JumpReaches jumps at target
+RoutineReaches jumps PrintText at target = JumpReaches jumps at target
+RoutineReaches jumps ReadByte at target = JumpReaches jumps at target
 
 -- and so does a branch, where jumps lead so far
 abbrev pub BranchReaches : Reach → Reach → ℕ → ℕ → Type 0

@@ -1,7 +1,7 @@
 -- The instructions of the assembler's operations, jumps and calls, as they stand in code at an address.
-use Rattle.std.specs.Prelude.{◌≡◌, ℕ, ◌+◌, ◌*◌, ◌%◌, List, [], ◌∷◌, Some, Bool, true, false, cond, nat_lt, nat_eq}
+use Rattle.std.specs.Prelude.{◌≡◌, ℕ, ◌+◌, ◌-◌, ◌*◌, ◌%◌, ◌^◌, List, [], ◌∷◌, Some, Bool, true, false, cond, nat_lt, nat_eq}
 use Rattle.rv_isa.specs.declared.register.Register.{Register}
-use Rattle.rv_place.specs.Registers.{zero_register, ra, sp, s0, s1}
+use Rattle.rv_place.specs.Registers.{zero_register, ra, sp, s0, s1, a0}
 use Rattle.rv_isa.specs.declared.immediate.Immediate.{Immediate}
 use Rattle.rv_isa.specs.declared.immediate.BranchOffset.{BranchOffset}
 use Rattle.rv_isa.specs.declared.immediate.JumpOffset.{JumpOffset}
@@ -18,6 +18,8 @@ use Rattle.rv_isa.specs.declared.asm.ImmediateOperation.TheVariants.{Addi, Slti,
 use Rattle.rv_isa.specs.declared.asm.ShiftOperation.{ShiftOperation}
 use Rattle.rv_isa.specs.declared.asm.ShiftOperation.TheVariants.{Slli, Srli, Srai}
 use Rattle.rv_isa.specs.declared.immediate.ShiftAmount.{ShiftAmount}
+use Rattle.rv_isa.specs.declared.routine.Routine.{Routine}
+use Rattle.rv_isa.specs.declared.routine.Routine.TheVariants.{Take, Drop, PrintInt, PrintText, ReadByte}
 use Rattle.rv_isa.specs.Arithmetic.{sum_word}
 use Rattle.rv_isa.specs.Opposites.{opposite}
 use Rattle.rv_isa.specs.Standing.{Code, Has}
@@ -153,6 +155,46 @@ abbrev pub RaisesCount : Code → ℕ → Register → Type 0
 RaisesCount code at a =
     (one : Immediate) × (over : BranchOffset) × (zero : Immediate) × (one.word ≡ 1) × (over.word ≡ 16) × Zero zero
     × Has code at (Instr.Andi ra a one ∷ Instr.Bne ra zero_register over ∷ Instr.Lw ra a zero ∷ Instr.Addi ra ra one ∷ Instr.Sw a ra zero ∷ [])
+
+-- how many instructions lower a count
+abbrev pub words_to_lower : ℕ
+words_to_lower = 6
+
+-- The count of the cell to which a0 refers comes to ra. A branch leads on where the reference is odd, which names no cell.
+abbrev pub LoadsCount : BranchOffset → Code → ℕ → Type 0
+LoadsCount over code at =
+    (one : Immediate) × (zero : Immediate) × (one.word ≡ 1) × Zero zero
+    × Has code at (Instr.Andi ra a0 one ∷ Instr.Bne ra zero_register over ∷ Instr.Lw ra a0 zero ∷ [])
+
+-- The count in ra is lowered, and stored again. A branch leads on where it is not 0 then.
+abbrev pub LowersCount : BranchOffset → Code → ℕ → Type 0
+LowersCount over code at =
+    (less : Immediate) × (zero : Immediate) × (less.word ≡ 2 ^ 32 - 1) × Zero zero
+    × Has code at (Instr.Addi ra ra less ∷ Instr.Sw a0 ra zero ∷ Instr.Bne ra zero_register over ∷ [])
+
+-- The reference in a0 is given up: the count of its cell is lowered. Where it was the last one, the routine comes, which frees the
+-- cell; the branches lead behind the call, where the reference is odd and where others are left.
+pub record DropsReference (jumps : Reach) (code : Code) (at target : ℕ) : Type 0 where
+  pub over : BranchOffset
+  pub over_is : over.word ≡ 20 + 4 * words_of_jump jumps
+  pub loads : LoadsCount over code at
+  pub over_call : BranchOffset
+  pub over_call_is : over_call.word ≡ 4 + 4 * words_of_jump jumps
+  pub lowers : LowersCount over_call code (at + 12)
+  pub calls : CallsTo jumps code (at + 24) target
+
+-- a call of a routine
+abbrev pub CallsRoutine : Reach → Code → ℕ → Routine → ℕ → Type 0
+CallsRoutine jumps code at Drop target = DropsReference jumps code at target
+CallsRoutine jumps code at Take target = CallsTo jumps code at target
+CallsRoutine jumps code at PrintInt target = CallsTo jumps code at target
+CallsRoutine jumps code at PrintText target = CallsTo jumps code at target
+CallsRoutine jumps code at ReadByte target = CallsTo jumps code at target
+
+-- how many instructions it is
+abbrev pub words_of_routine : Reach → Routine → ℕ
+words_of_routine jumps Drop = words_to_lower + words_of_jump jumps
+words_of_routine jumps _ = words_of_jump jumps
 
 -- The token in a register is put before the free cells: its first word is the first of them, and s0 is its address. A branch
 -- leads over this where

@@ -23,7 +23,7 @@ use Rattle.rv_isa.specs.Arithmetic.{sum_word}
 use Rattle.rv_isa.specs.Sizes.{reach_down}
 use Rattle.rv_isa.specs.Standing.{Code, Has}
 use Rattle.cell_runtime.specs.Operations.{Constants}
-use Rattle.rv_place.specs.Instructions.{Zero, words_of_jump, JumpsTo, CallsTo, BranchesOn, HoldsToken, UnholdsToken, Computes}
+use Rattle.rv_place.specs.Instructions.{Zero, words_of_jump, JumpsTo, CallsTo, CallsRoutine, BranchesOn, HoldsToken, UnholdsToken, Computes}
 use Rattle.rv_place.specs.Addresses.{is_silent, is_at_pointer, words_of_line, words_of_shift, words_to_frame, label_address, forms_of}
 use Rattle.rv_place.specs.Addresses.{entry_words, skipped_words, takes_frame, frame_bias, slot_offset, way_offset, IsBehind}
 use Rattle.rv_place.specs.declared.reach.Forms.{Forms}
@@ -148,7 +148,7 @@ ActsAt map forms code start whole at (TailCall f) args into =
     (entry : ℕ) (takes : Bool) → slice_get map.entries f ≡ Some entry → slice_get map.takes f ≡ Some takes
     → JumpsTo forms.jumps code at (entry + 4 * skipped_words map.jumps forms.frame takes)
 ActsAt map forms code start whole at Return args into = ReturnsBy forms.frame map code at
-ActsAt map forms code start whole at (Routine routine) args into = (target : ℕ) → IsSymbolAt map (symbol.Routine routine) target → CallsTo forms.jumps code at target
+ActsAt map forms code start whole at (Routine routine) args into = (target : ℕ) → IsSymbolAt map (symbol.Routine routine) target → CallsRoutine forms.jumps code at routine target
 ActsAt map forms code start whole at Hold args into =
     (token : Register) → token_from args ≡ Some token → OnToken (HoldsToken (is_at_pointer forms.jumps args) token) map code at args
 ActsAt map forms code start whole at Unhold args into =

@@ -198,7 +198,7 @@ fn over_link(at_pointer: bool) -> BranchOffset
     BranchOffset::new(12 + 4 * words_to_name(at_pointer))
 }
 
-/// Holds the token in a register, which its slot has too and which is the newest one then; where it is null, does nothing.
+/// Holds the token in a register, which its slot has too: it is the newest one then. Where it is null, does nothing.
 pub fn emit_hold(
     code: &mut Vec<Instr>,
     jumps: Reach,
@@ -234,7 +234,7 @@ pub fn token_into(into: Option<Operand>) -> Register
     }
 }
 
-/// Takes the token of a slot back to a register, which is the newest one; where the slot has none, does nothing else.
+/// Takes the newest held token, that of a slot, back to a register; where the slot has none, loads its 0 and does nothing else.
 pub fn emit_unhold(
     code: &mut Vec<Instr>,
     jumps: Reach,

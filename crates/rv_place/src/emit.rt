@@ -193,7 +193,7 @@ fn branch_instruction(
 }
 
 /// Over a jump: the distance of a branch that stands right before one.
-fn over_jump(jumps: Reach) -> BranchOffset
+pub fn over_jump(jumps: Reach) -> BranchOffset
     ensures { result.word ≡ 4 + 4 * words_of_jump jumps }
 {
     BranchOffset::new(4 + 4 * jumps.words_of_jump())

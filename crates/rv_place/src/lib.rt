@@ -11,6 +11,7 @@ mod law;
 mod lines;
 mod operations;
 mod reach;
+mod routines;
 mod sizes;
 mod text;
 mod words;

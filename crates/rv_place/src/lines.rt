@@ -16,6 +16,7 @@ use crate::emit::{emit_branch, emit_call, emit_entry, emit_jump, emit_move, emit
 use crate::labels::Labels;
 use crate::operations::{argument, emit_operation};
 use crate::reach::Reach;
+use crate::routines::emit_routine;
 use crate::sizes::{forms_of, is_silent, words_of_function, words_of_item};
 use kk_base::NoMemory;
 use rv_isa::{Action, Instr, Item, Operand, PlacedFunction};
@@ -59,7 +60,9 @@ fn emit_action(
             emit_jump(code, at, jumps, chart.tail(function, labels.forms.frame))
         }
         Action::Return => emit_return(code, chart, labels.forms.frame),
-        Action::Routine(routine) => { emit_call(code, at, jumps, chart.symbols.routine(routine)) }
+        Action::Routine(routine) => {
+            emit_routine(code, at, jumps, routine, chart.symbols.routine(routine))
+        }
         Action::Hold => emit_hold(code, jumps, args, argument(args, 1)),
         Action::Unhold => emit_unhold(code, jumps, args, token_into(into)),
     }

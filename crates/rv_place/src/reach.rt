@@ -1,12 +1,13 @@
 // How far jumps and branches lead, and how large frames are.
 
 ghost use Rattle.std.specs.Prelude.{◌≡◌, ◌≤◌};
-ghost use Rattle.rv_place.specs.Instructions.{words_of_jump, words_of_branch, form_of, words_of_form, words_to_name, words_to_hold};
+ghost use Rattle.rv_isa.specs.Costs.{routine_length};
+ghost use Rattle.rv_place.specs.Instructions.{words_of_jump, words_of_branch, words_of_routine, form_of, words_of_form, words_to_name, words_to_hold};
 ghost use Rattle.rv_place.specs.Addresses.{entry_words, most_entry_words, test_words, frame_bias, pointer_slot, is_at_pointer, reach_of, words_of_return, words_of_shift};
 ghost use Rattle.rv_place.specs.Addresses.{words_to_frame};
 
 use rv_isa::sizes::REACH_DOWN;
-use rv_isa::{Operand, Place};
+use rv_isa::{Operand, Place, Routine};
 
 /// How far a jump or a branch leads; of the jumps of a text also whether its frames are wide.
 #[derive(Clone, Copy, PartialEq, Eq, Debug)]
@@ -17,6 +18,22 @@ pub enum Reach {
     Far,
     /// Anywhere, where frames are larger than a load reaches from their first word.
     Wide,
+}
+
+/// How many instructions lower a count.
+pub const WORDS_TO_LOWER: u32 = 6;
+
+/// How many instructions a call of a routine is, where jumps lead so far.
+pub fn words_of_routine(jumps: Reach, routine: Routine) -> u32
+    ensures words { result ≡ words_of_routine jumps routine }
+    ensures few { result ≤ routine_length routine }
+{
+    match routine {
+        Routine::Drop => WORDS_TO_LOWER + jumps.words_of_jump(),
+        Routine::Take | Routine::PrintInt | Routine::PrintText | Routine::ReadByte => {
+            jumps.words_of_jump()
+        }
+    }
 }
 
 /// How far the jumps of a function and its branches lead, and whether it takes a frame.

@@ -13,7 +13,7 @@ ghost use Rattle.rv_place.specs.Addresses.{operation_links, action_needs_frame, 
 ghost use Rattle.rv_place.specs.Texts.{most_text_length, most_functions, most_runtime_words, most_constant_bytes};
 
 use crate::chart::words_of_native;
-use crate::reach::{Forms, Reach, WordForm};
+use crate::reach::{Forms, Reach, WordForm, words_of_routine};
 use kk_base::Text;
 use rv_isa::{Action, Item, Native, Operand, Operation, Place, PlacedFunction, Way};
 
@@ -40,7 +40,8 @@ fn words_of_action(forms: Forms, action: Action, args: &[Operand]) -> u32
     match action {
         Action::Compute(operation) => words_of_operation(operation),
         Action::Label(_) => 0,
-        Action::Jump(_) | Action::Call(_) | Action::TailCall(_) | Action::Routine(_) => jump,
+        Action::Jump(_) | Action::Call(_) | Action::TailCall(_) => jump,
+        Action::Routine(routine) => words_of_routine(forms.jumps, routine),
         Action::Branch(_, _) => forms.words_of_branch(),
         Action::Return => forms.words_of_return(),
         Action::Hold => forms.jumps.words_to_hold(args),

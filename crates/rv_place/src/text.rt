@@ -32,7 +32,7 @@ fn jumps_of(runtime: &Placed, program: &Placed) -> Reach
     requires { ArePlaceable runtime.now program.now }
     ensures { result ≡ jumps_of runtime.now program.now }
 {
-    let own = words_of_natives(runtime.lines());
+    let own = words_of_natives(runtime.natives());
     let words = own + words_of_functions(Reach::Near, program.functions());
     if frame_bytes(program) > NARROW_FRAME {
         Reach::Wide
@@ -48,7 +48,7 @@ fn text_words(runtime: &Placed, program: &Placed) -> u32
     ensures few { result ≤ most_text_words }
 {
     let jumps = jumps_of(runtime, program);
-    words_of_natives(runtime.lines()) + words_of_functions(jumps, program.functions())
+    words_of_natives(runtime.natives()) + words_of_functions(jumps, program.functions())
 }
 
 /// The address of the memory behind the text.
@@ -66,7 +66,7 @@ fn first_entry(runtime: &Placed) -> u32
     requires { words_of (placed_natives runtime.now) ≤ most_runtime_words }
     ensures { result ≡ text_start + 4 * words_of (placed_natives runtime.now) }
 {
-    TEXT_START + 4 * words_of_natives(runtime.lines())
+    TEXT_START + 4 * words_of_natives(runtime.natives())
 }
 
 /// The addresses of functions that stand one behind the other.
@@ -146,7 +146,7 @@ fn chart_of(alloc: Global, runtime: &Placed, program: &Placed) -> Result<Chart, 
         frame: frame_bytes(program),
         entries,
         takes,
-        symbols: Symbols::of(runtime.lines()),
+        symbols: Symbols::of(runtime.natives()),
         constants,
     })
 }
@@ -186,7 +186,7 @@ pub fn place(alloc: Global, runtime: &Placed, program: &Placed) -> Result<Words,
 {
     let chart = chart_of(alloc, runtime, program)?;
     let memory = memory_of(runtime, program);
-    let mut instructions = natives_code(alloc, memory, runtime.lines())?;
+    let mut instructions = natives_code(alloc, memory, runtime.natives())?;
     emit_functions(
         alloc,
         &mut instructions,

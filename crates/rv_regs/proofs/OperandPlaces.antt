@@ -106,8 +106,7 @@ takes_number (Call f) n few over = eq-eqb _ _ (number_is (10 + n) (omega (arith,
 takes_number (TailCall f) n few over = eq-eqb _ _ (number_is (10 + n) (omega (arith, few)))
 takes_number Return n few over = eq-eqb _ _ (number_is (10 + n) (omega (arith, few)))
 takes_number (Routine Take) n few over = absurd (omega (arith, few))
-takes_number (Routine Drop) zero few over = refl
-takes_number (Routine Drop) (suc n) few over = absurd (omega (arith, few))
+takes_number (Routine Drop) n few over = absurd (false≢true over)
 takes_number (Routine PrintInt) zero few over = refl
 takes_number (Routine PrintInt) (suc zero) few over = refl
 takes_number (Routine PrintInt) (suc (suc n)) few over = absurd (omega (arith, few))
@@ -142,6 +141,13 @@ takes_row action first loaded n (v ∷ vs) distinct takes stand =
     ∙ place_other l (load_from (suc (first + n)) vs) u (λ same. false≢true (sym distinct.0 ∙ ap (λ w. is_among w vs) same ∙ t))
     ∙ ap (λ m. place_in (load_from m vs) u) next))
 
+-- those that are handed over stand in a row of registers
+takes_in_row : (action : Action) (args : List ℕ) → length args ≤ most_args action → hands_over action ≡ true → AreDistinct args
+    → take_from action 0 (map (operand_at (place_in (load_from (first_register action) args))) args) ≡ true
+takes_in_row action args few over distinct =
+    takes_row action (first_register action) (load_from (first_register action) args) 0 args distinct (λ k low high. takes_number action k (omega (arith, high, few)) over)
+    (λ v t. ap (λ n. place_in (load_from n args) v) (omega arith))
+
 takes_args : (action : Action) (args : List ℕ) → length args ≤ most_args action → (hands_over action ≡ true → AreDistinct args)
     → take_from action 0 (operands_for action (loaded_for action args) args) ≡ true
 takes_args (Compute operation) args few distinct = takes_any (Compute operation) is_register (load_from 5 args) 0 args (λ k place t. t) (λ v t. place_loaded 5 args v t)
@@ -152,13 +158,11 @@ takes_args Hold (v ∷ []) few distinct = refl
 takes_args Hold (v ∷ u ∷ []) few distinct = and_from _ _ (place_loaded 10 (u ∷ []) u (or_left (u == u) false (eq-eqb u u refl))) refl
 takes_args Hold (v ∷ u ∷ w ∷ more) few distinct = absurd (omega (arith, few))
 takes_args Unhold args few distinct = takes_any Unhold is_slot [] 0 args (λ k place t. t) (λ v t. refl)
-takes_args action args few distinct = in_row action args few refl (distinct refl)
-  where
-    in_row : (action : Action) (args : List ℕ) → length args ≤ most_args action → hands_over action ≡ true → AreDistinct args
-        → take_from action 0 (map (operand_at (place_in (load_from (first_register action) args))) args) ≡ true
-    in_row action args few over distinct =
-        takes_row action (first_register action) (load_from (first_register action) args) 0 args distinct (λ k low high. takes_number action k (omega (arith, high, few)) over)
-        (λ v t. ap (λ n. place_in (load_from n args) v) (omega arith))
+takes_args (Routine Drop) [] few distinct = refl
+takes_args (Routine Drop) (v ∷ []) few distinct =
+    and_from _ _ (ap (takes_at (Routine Drop) 0) (place_same (record { value = v; register = numbered 10 }) [] v refl)) refl
+takes_args (Routine Drop) (v ∷ u ∷ more) few distinct = absurd (omega (arith, few))
+takes_args action args few distinct = takes_in_row action args few refl (distinct refl)
 
 -- what holds of each argument in its slot and in its place holds of each operand
 pub operands_made : (P : Operand → Type 0) (action : Action) (loaded : List Loaded) (args : List ℕ) → ((v : ℕ) → is_among v args ≡ true → P (operand_at (place_in []) v))

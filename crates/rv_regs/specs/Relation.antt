@@ -95,12 +95,12 @@ leading [] = 0
 leading (does alive action args into ∷ code) = 0
 leading (moves alive value way ∷ code) = suc (leading code)
 
--- the loads for so many arguments: a token that is taken back is in its slot
+-- the moves for so many arguments: a token that is taken back is in its slot
 abbrev pub argument_loads : Action → ℕ → ℕ
 argument_loads Unhold count = 0
 argument_loads action count = count
 
--- the loads that may stand before the first statement of code, for its arguments
+-- the moves that may stand before the first statement of code, for its arguments: loads, and of a Hold a store and a load
 abbrev pub first_args : List PlacedLine → ℕ
 first_args [] = 0
 first_args (does alive action args into ∷ code) = argument_loads action (length args)

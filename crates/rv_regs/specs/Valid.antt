@@ -9,4 +9,4 @@ use Rattle.rv_regs.specs.Conditions.{ArePlacings}
 pub record IsValid (asm : Asm) (placed : Placed) : Type 0 where
   pub functions : ArePlacings (asm_functions asm) (placed_functions placed)
   pub constants : placed_constants placed ≡ asm_constants asm
-  pub no_natives : (placed_natives placed) ≡ []
+  pub no_natives : placed_natives placed ≡ []

@@ -15,7 +15,7 @@ use crate::modest::is_modest;
 use crate::numbering::with_tokens_first;
 use crate::walk::placed_lines;
 use kk_base::{NoMemory, Text};
-use rv_isa::{Asm, AsmFunction, DataSection, Placed, PlacedFunction};
+use rv_isa::{Asm, AsmFunction, Placed, PlacedFunction};
 use std::alloc::Global;
 
 fn plain_function(alloc: Global, function: &AsmFunction) -> Result<PlacedFunction, NoMemory>

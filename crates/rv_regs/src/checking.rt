@@ -156,7 +156,7 @@ pub fn valid(asm: &Asm, placed: &Placed) -> bool
 {
     are_placings(&asm.functions, placed.functions())
         && same_constants(placed.constants(), &asm.constants)
-        && placed.lines().is_empty()
+        && placed.natives().is_empty()
 }
 
 fn alive_of(item: &Item) -> &[Listed]

@@ -271,6 +271,7 @@ fn store_all(alloc: Global, walk: &mut Walk, values: &[u32]) -> Result<(), NoMem
 }
 
 // Values that have to be in their slots on each way on go there, while moves are left: those in registers that others wish for first.
+// One that stands in two registers, of which the statement takes one, goes there later: a store would forget the copy.
 fn store_some(
     alloc: Global,
     walk: &mut Walk,
@@ -280,7 +281,8 @@ fn store_some(
     for is_wished in [true, false] {
         for value in values {
             if let Some(listed) = listing(&walk.state, *value) {
-                if walk.left > 0 && (!is_wished || is_wished_for(listed, &behind.wishes)) {
+                let is_open = !is_wished || is_wished_for(listed, &behind.wishes);
+                if walk.left > 0 && listed.copy.is_none() && is_open {
                     put_store(alloc, walk, listed)?;
                 }
             }
@@ -289,24 +291,49 @@ fn store_some(
     Ok(())
 }
 
-// What is alive behind an action leaves the registers that the action spoils.
+// Whether the value stands in the register where it is taken as an argument.
+fn stands_as_taken(listed: Listed, args: &[u32]) -> bool {
+    for (index, value) in args.iter().enumerate() {
+        if let Some(register) = argument_register(index) {
+            if *value == listed.value && stands_in(listed, register) {
+                return true;
+            }
+        }
+    }
+    false
+}
+
+// A value leaves the register where it stands. As an argument that is taken there it stays, and another register has a copy.
+fn leave_place(
+    alloc: Global,
+    walk: &mut Walk,
+    listed: Listed,
+    args: &[u32],
+    stored: &[u32],
+) -> Result<(), NoMemory> {
+    if is_one_of(listed.value, stored) {
+        return put_store(alloc, walk, listed);
+    }
+    let to = spare_register(walk, args)?;
+    if stands_as_taken(listed, args) {
+        put_copy(alloc, walk, listed, to)
+    } else {
+        put_away(alloc, walk, listed, to)
+    }
+}
+
+// What is alive behind a statement leaves the registers that its action spoils.
 fn leave_spoilt(
     alloc: Global,
     walk: &mut Walk,
-    action: Action,
-    values: &[u32],
-    stored: &[u32],
+    statement: &Statement,
+    behind: &Plan,
 ) -> Result<(), NoMemory> {
-    for value in values {
+    for value in &behind.point.alive {
         if let Some(listed) = listing(&walk.state, *value) {
             if let Place::Register(register) = listed.place {
-                if may_spoil(Some(action), register.number) {
-                    if is_one_of(*value, stored) {
-                        put_store(alloc, walk, listed)?;
-                    } else {
-                        let to = spare_register(walk, &[])?;
-                        put_away(alloc, walk, listed, to)?;
-                    }
+                if may_spoil(Some(statement.action), register.number) {
+                    leave_place(alloc, walk, listed, &statement.args, &behind.stored)?;
                 }
             }
         }
@@ -447,7 +474,7 @@ fn prepare(
             if spoils_many(action) {
                 store_all(alloc, walk, &behind.point.alive)?;
             } else {
-                leave_spoilt(alloc, walk, action, &behind.point.alive, &behind.stored)?;
+                leave_spoilt(alloc, walk, statement, behind)?;
             }
             arrange(alloc, walk, &statement.args)
         }

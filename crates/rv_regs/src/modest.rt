@@ -7,7 +7,7 @@ ghost use Rattle.rv_isa.specs.declared.placed.Listed.{Listed};
 ghost use Rattle.rv_isa.specs.declared.placed.Operand.{Operand};
 ghost use Rattle.rv_isa.specs.AsmCode.{line_of, lines_of};
 ghost use Rattle.rv_isa.specs.PlacedCode.{placed_line_of, placed_lines_of, from_of, to_of};
-ghost use Rattle.rv_isa.specs.Costs.{operation_instructions, move_instructions, tail_call_length, action_length, result_moves, line_length, code_length, placed_line_length, placed_code_length};
+ghost use Rattle.rv_isa.specs.Costs.{operation_instructions, move_instructions, tail_call_length, routine_length, action_length, result_moves, line_length, code_length, placed_line_length, placed_code_length};
 ghost use Rattle.rv_isa.specs.ValueBounds.{AreValuesBelow, IsWrittenBelow, AreLinesBelow, HasValuesBelow};
 ghost use Rattle.rv_regs.specs.Relation.{argument_loads, stores_behind, FunctionFewMoves};
 ghost use Rattle.rv_regs.specs.Shape.{IsBelow, IsResultBelow, HasSlotsBelow, AllSlotsBelow, HasOwnSlots, IsModest};
@@ -15,7 +15,8 @@ ghost use Rattle.rv_regs.specs.Shape.{IsBelow, IsResultBelow, HasSlotsBelow, All
 use crate::checking::{from, to};
 use kk_base::LimitKind;
 use rv_isa::{
-    Action, AsmFunction, Item, Listed, Operand, Operation, Place, PlacedFunction, Statement,
+    Action, AsmFunction, Item, Listed, Operand, Operation, Place, PlacedFunction, Routine,
+    Statement,
 };
 
 // One more than a value, or `most` where that is more.
@@ -218,6 +219,15 @@ fn length_of_operation(operation: Operation) -> u32
 // What may be written in place of a tail call where a function calls itself.
 const TAIL_CALL_LENGTH: u32 = 11;
 
+fn length_of_routine(routine: Routine) -> u32
+    ensures { result ≡ routine_length routine }
+{
+    match routine {
+        Routine::Drop => 8,
+        Routine::Take | Routine::PrintInt | Routine::PrintText | Routine::ReadByte => 2,
+    }
+}
+
 fn length_of_action(action: Action) -> u32
     ensures { result ≡ action_length action }
 {
@@ -229,7 +239,7 @@ fn length_of_action(action: Action) -> u32
         Action::Call(_) => 7,
         Action::TailCall(_) => TAIL_CALL_LENGTH,
         Action::Return => 4,
-        Action::Routine(_) => 2,
+        Action::Routine(routine) => length_of_routine(routine),
         Action::Hold => 5,
         Action::Unhold => 3,
     }

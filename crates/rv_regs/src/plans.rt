@@ -129,6 +129,11 @@ pub fn spoils_many(action: Action) -> bool {
     )
 }
 
+// Whether an argument of a statement is alive behind it too, and not its result.
+fn is_read_on(statement: &Statement, value: u32, behind: &[u32]) -> bool {
+    is_one_of(value, behind) && !is_result(statement.into, value)
+}
+
 /// The label to which a jump or a branch leads.
 pub fn named_label(action: Action) -> Option<u32> {
     match action {
@@ -317,8 +322,38 @@ fn copied_wish(walk: &Walk, statement: &Statement, wish: Wish) -> Option<Wish> {
     }
 }
 
+// The wishes with those for the arguments of a statement that are taken in their registers. One that is read on behind the statement
+// wishes for none of them, since the statement may spoil it.
+fn with_arguments(
+    alloc: Global,
+    wishes: Vec<Wish>,
+    statement: &Statement,
+    behind: &[u32],
+) -> Result<Vec<Wish>, NoMemory> {
+    let mut next = wishes;
+    for (index, value) in statement.args.iter().enumerate() {
+        if let (Some(register), false) = (
+            argument_register(index),
+            is_read_on(statement, *value, behind),
+        ) {
+            let wish = Wish {
+                value: *value,
+                register,
+                worth: worth_of(statement.action),
+            };
+            next = with_wish(alloc, &next, wish)?;
+        }
+    }
+    Ok(next)
+}
+
 // The wishes before a statement: those behind it, but for its result and for registers that it spoils, and those for its arguments.
-fn wishes_before(alloc: Global, walk: &Walk, statement: &Statement) -> Result<Vec<Wish>, NoMemory> {
+fn wishes_before(
+    alloc: Global,
+    walk: &Walk,
+    statement: &Statement,
+    behind: &[u32],
+) -> Result<Vec<Wish>, NoMemory> {
     let action = statement.action;
     let mut wishes = Vec::new(alloc);
     let mut copied = None;
@@ -335,19 +370,12 @@ fn wishes_before(alloc: Global, walk: &Walk, statement: &Statement) -> Result<Ve
     if let Some(wish) = copied {
         wishes = with_wish(alloc, &wishes, wish)?;
     }
-    if let Action::Call(_) | Action::TailCall(_) | Action::Return | Action::Routine(_) = action {
-        for (index, value) in statement.args.iter().enumerate() {
-            if let Some(register) = argument_register(index) {
-                let wish = Wish {
-                    value: *value,
-                    register,
-                    worth: worth_of(action),
-                };
-                wishes = with_wish(alloc, &wishes, wish)?;
-            }
+    match action {
+        Action::Call(_) | Action::TailCall(_) | Action::Return | Action::Routine(_) => {
+            with_arguments(alloc, wishes, statement, behind)
         }
+        _ => Ok(wishes),
     }
-    Ok(wishes)
 }
 
 // The next labels on the way on from a statement.
@@ -399,7 +427,7 @@ fn plan_before(
     };
     let here = joining_by(alloc, walk, action, &behind, lone)?;
     let joining = alive_before(alloc, &here, into, &later)?;
-    let wishes = wishes_before(alloc, walk, statement)?;
+    let wishes = wishes_before(alloc, walk, statement, &behind)?;
     Ok(Plan {
         point: Point { alive, held },
         slotted,

@@ -186,17 +186,25 @@ pub fn state_without(alloc: Global, state: &[Listed], value: u32) -> Result<Vec<
     Ok(next)
 }
 
+// The listing behind an action: without a copy that the action may spoil, or at the copy where it may spoil the place.
 fn unspoilt(listed: Listed, action: Action) -> Listed {
-    match listed.copy {
-        Some(register) if may_spoil(Some(action), register.number) => Listed {
+    match (listed.place, listed.copy) {
+        (_, Some(copy)) if may_spoil(Some(action), copy.number) => Listed {
             copy: None,
             ..listed
         },
+        (Place::Register(register), Some(copy)) if may_spoil(Some(action), register.number) => {
+            Listed {
+                place: Place::Register(copy),
+                copy: None,
+                ..listed
+            }
+        }
         _ => listed,
     }
 }
 
-/// The listings without the copies that the action may spoil.
+/// The listings behind an action: a value that stands in two registers, of which the action may spoil one, stands in the other one.
 pub fn state_behind(
     alloc: Global,
     state: &[Listed],

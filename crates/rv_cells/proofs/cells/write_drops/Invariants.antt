@@ -9,9 +9,9 @@ use Rattle.rv_cells.proofs.cells.write_drops.Given as goal
 -- the lines so far and those that are left make the whole
 abbrev pub invariant-loop-field : goal.invariant-loop-field
 invariant-loop-field l = record {
-  code : lines_written l.lowering ++ drops_lines l.fn.lowering.base (holds_known l.known)
+  code : lines_written l.lowering ++ drops_lines (holds_known l.known)
       (filter (λ y. not (is_among l.used y)) (drop l.field-index l.fields))
-      ≡ lines_written l.fn.lowering ++ drops_lines l.fn.lowering.base (holds_known l.known)
+      ≡ lines_written l.fn.lowering ++ drops_lines (holds_known l.known)
       (filter (λ y. not (is_among l.used y)) l.fields);
   texts : texts_written l.lowering ≡ texts_written l.fn.lowering;
   base : l.lowering.base ≡ l.fn.lowering.base;

@@ -40,9 +40,9 @@ returns-in-Return c =
 
 pub returns-in-Routine : goal.returns-in-Routine
 returns-in-Routine c =
-    on_so c.emit_call-in-Routine.result
+    on_so c.emit_routine.result
     (on_routine c.args.chart.now c.args.labels.now c.args.at c.args.args.now c.args.into c.in-Routine.is c.routine.ensures)
-    c.emit_call-in-Routine.ensures
+    c.emit_routine.ensures
 
 pub returns-in-Hold : goal.returns-in-Hold
 returns-in-Hold c =

@@ -39,7 +39,7 @@ returns c =
       first_word = refl;
       short = λ near. short_text runtime program near;
       below = let words = c.text_words.ensures.words in let few = c.text_words.ensures.few in omega arith;
-      symbols = subst (λ (natives : List Native). AreSymbols text_start (labels_of 0 natives) c.of.result) c.lines.ensures c.of.ensures;
+      symbols = subst (λ (natives : List Native). AreSymbols text_start (labels_of 0 natives) c.of.result) c.natives.ensures c.of.ensures;
       constants = λ index address there.
           subst (λ (addresses : List ℕ). slice_get addresses index ≡ Some address) (sym constants)
           (addresses_get (text_start + 4 * text_words runtime program) (placed_constants program) index address there);

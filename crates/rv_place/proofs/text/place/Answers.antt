@@ -1,4 +1,4 @@
-use Rattle.std.proofs.Common.{◌≡◌, ℕ, ◌+◌, ◌*◌, List, length, map, length-append, sym, ap, ◌∙◌, subst, arith}
+use Rattle.std.proofs.Common.{◌≡◌, ℕ, ◌+◌, ◌*◌, List, length, length-append, sym, ap, ◌∙◌, subst, arith}
 use Rattle.elf_image.specs.Program.{text_start}
 use Rattle.rv_isa.specs.declared.placed.Native.{Native}
 use Rattle.rv_isa.specs.PlacedCode.{PlacedLines, placed_functions, placed_natives}
@@ -18,7 +18,7 @@ returns c =
     let own = c.in_ok-instructions.instructions.items in
     let new = c.emit_functions.new.code.items in
     let first = text_start + 4 * words_of (placed_natives runtime) in
-    let own_size : length own ≡ words_of (placed_natives runtime) = c.in_ok-instructions.ensures.size ∙ ap words_of c.lines.ensures in
+    let own_size : length own ≡ words_of (placed_natives runtime) = c.in_ok-instructions.ensures.size ∙ ap words_of c.natives.ensures in
     let jumps : Reach = c.in_ok-chart.chart.jumps in
     let sized : words_of_functions jumps (placed_functions program) ≡ words_of_functions (jumps_of runtime program) (placed_functions program) =
     ap (λ (j : Reach). words_of_functions j (placed_functions program)) c.in_ok-chart.ensures.jumps in
@@ -34,7 +34,7 @@ returns c =
       instructions = grew.whole;
       spelled =
           subst (λ (memory : ℕ). Spells memory (placed_natives runtime) own) c.memory_of-memory.ensures.address
-          (subst (λ (natives : List Native). Spells c.memory_of-memory.result natives own) c.lines.ensures c.in_ok-instructions.ensures.spelled);
+          (subst (λ (natives : List Native). Spells c.memory_of-memory.result natives own) c.natives.ensures c.in_ok-instructions.ensures.spelled);
       own_size = own_size;
       size = omega arith;
       functions = functions_at (placed_functions program) (map_of runtime program) c.in_ok-chart.ensures (ap (λ (n : ℕ). text_start + 4 * n) (sym own_size))

@@ -1,0 +1,21 @@
+use Rattle.std.proofs.Common.{Some, refl, ap, ◌∙◌}
+use Rattle.rv_isa.specs.declared.instr.Instr.TheVariants.{Andi}
+use Rattle.cell_runtime.proofs.Operands.{imm_0}
+use Rattle.cell_runtime.proofs.ItemEquality.{same_immediate_format, same_bne, same_lw}
+use Rattle.rv_place.proofs.Emissions.{grew_so, grew_then}
+use Rattle.rv_place.proofs.routines.emit_count.Goals as goal
+
+pub returns : goal.returns
+returns c =
+    grew_so refl
+    (λ code at row. (
+      c.new-one.result,
+      imm_0,
+      c.new-one.ensures,
+      refl,
+      (
+        row.0 ∙ ap Some (same_immediate_format Andi _ _ _ _ _ _ refl refl refl),
+        (row.1.0 ∙ ap Some (same_bne refl refl refl), (row.1.1 ∙ ap Some (same_lw refl refl refl), tt)),
+      ),
+    ))
+    (grew_then c.in_ok-emit.ensures (grew_then c.in_ok-emit-2.ensures c.in_ok-emit-3.ensures))
