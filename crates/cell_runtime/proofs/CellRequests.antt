@@ -182,8 +182,8 @@ module _ (pool : Pool) (view : View) (s t : Processor) (memory : Memory pool vie
   held_at : IsHeldChain pool s.parts s.memory view.heap (value s.registers 9) (link ∷ links)
   held_at = subst (IsHeldChain pool s.parts s.memory view.heap (value s.registers 9)) newest memory.held
 
-  inside : SameInside pool s.memory t.memory
-  inside = rw stored (SameInside-store pool s.memory link.slot 0 held_at.1.is_slot.apart)
+  pub newest_inside : SameInside pool s.memory t.memory
+  newest_inside = rw stored (SameInside-store pool s.memory link.slot 0 held_at.1.is_slot.apart)
 
   slots : SameSlots s.memory t.memory links
   slots = record {
@@ -197,12 +197,12 @@ module _ (pool : Pool) (view : View) (s t : Processor) (memory : Memory pool vie
       → Memory pool (record view { held = links }) t
   memory_taken_back first next border end =
       let aligned = memory.usable.aligned in
-      let chain = IsHeldChain-outside s.parts aligned inside memory.shown (word s.memory link.cell) links slots held_at.4 in
+      let chain = IsHeldChain-outside s.parts aligned newest_inside memory.shown (word s.memory link.cell) links slots held_at.4 in
       record {
         usable = subst (IsUsable pool) (sym parts) memory.usable;
-        shown = IsShown-outside aligned inside memory.shown;
+        shown = IsShown-outside aligned newest_inside memory.shown;
         settled = memory.settled;
-        chain = rw first (IsChain-outside aligned inside memory.shown (value s.registers 8) view.frees memory.chain);
+        chain = rw first (IsChain-outside aligned newest_inside memory.shown (value s.registers 8) view.frees memory.chain);
         held = rw (parts, next) chain;
         border = border ∙ memory.border;
         end = end ∙ memory.end;

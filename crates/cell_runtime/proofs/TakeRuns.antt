@@ -30,17 +30,17 @@ use Rattle.cell_runtime.proofs.Operands.{imm_0, imm_4, imm_cell_size, imm_heap_f
 use Rattle.cell_runtime.proofs.Spelling.{plain, plain_makes}
 use Rattle.cell_runtime.proofs.RoutineCalls.{leads-back, then_one, exits-after, returns_by}
 use Rattle.cell_runtime.proofs.StopRuns.{stop_code, stop_exits}
-use Rattle.cell_runtime.proofs.CellRequests.{first_is, first_free, memory_chained, memory_fresh, newest_is, newest_held, newest_cell, memory_taken_back}
+use Rattle.cell_runtime.proofs.CellRequests.{first_is, first_free, memory_chained, memory_fresh, newest_is, newest_held, newest_cell, newest_inside, memory_taken_back}
 
 abbrev pub held_code : List Instr
 held_code =
-    Beq x9 x0 forward_24 ∷ Addi x10 x9 imm_0 ∷ Lw x5 x9 imm_4 ∷ Lw x9 x9 imm_0 ∷ Sw x5 x0 imm_0 ∷ Jalr x0 x1 imm_0 ∷ stop_code imm_heap_full
+    Beq x9 x0 forward_24 ∷ Addi x5 x9 imm_0 ∷ Lw x9 x5 imm_4 ∷ Sw x9 x0 imm_0 ∷ Lw x9 x5 imm_0 ∷ Jalr x0 x1 imm_0 ∷ stop_code imm_heap_full
 
 abbrev pub border_code : List Instr
-border_code = Beq x18 x19 forward_16 ∷ Addi x10 x18 imm_0 ∷ Addi x18 x18 imm_cell_size ∷ Jalr x0 x1 imm_0 ∷ held_code
+border_code = Beq x18 x19 forward_16 ∷ Addi x5 x18 imm_0 ∷ Addi x18 x18 imm_cell_size ∷ Jalr x0 x1 imm_0 ∷ held_code
 
 abbrev pub take_code : List Instr
-take_code = Beq x8 x0 forward_16 ∷ Addi x10 x8 imm_0 ∷ Lw x8 x8 imm_0 ∷ Jalr x0 x1 imm_0 ∷ border_code
+take_code = Beq x8 x0 forward_16 ∷ Addi x5 x8 imm_0 ∷ Lw x8 x8 imm_0 ∷ Jalr x0 x1 imm_0 ∷ border_code
 
 -- where a slot has lost its token
 abbrev emptied : Processor → ℕ → Processor
@@ -67,7 +67,7 @@ module _ (code : Code) (pool : Pool) (view : View) (s : Processor) (stands : Sta
       let b = then_one stands a (λ on. leads-addi on {v = cell} has.1.0 to (next-is stands (s.pc + 4) _ has.1.1.0)) in
       let c = then_one stands b (λ on. leads-lw on {at = cell} {v = word s.memory cell} has.1.1.0 to (omega arith) (memory.usable.loads cell behind (omega arith)) refl (next-is stands (s.pc + 4 + 4) _ has.1.1.1.0)) in
       let t = record s {
-        registers = put 8 (word s.memory cell) (put 10 cell s.registers);
+        registers = put 8 (word s.memory cell) (put 5 cell s.registers);
         pc = s.pc + 4 + 4 + 4;
         executed = s.executed + 1 + 1 + 1;
       } in
@@ -88,8 +88,8 @@ module _ (code : Code) (pool : Pool) (view : View) (s : Processor) (stands : Sta
         },
       )
     where
-      kept : (next cell x : ℕ) → KeptBy (Routine Take) x → value (put 8 next (put 10 cell s.registers)) x ≡ value s.registers x
-      kept next cell x out = let a : x ≢ 8 = out.0 in let b : x ≢ 10 = out.1.1.1.1.0 in grind (arith, nat_tests)
+      kept : (next cell x : ℕ) → KeptBy (Routine Take) x → value (put 8 next (put 5 cell s.registers)) x ≡ value s.registers x
+      kept next cell x out = let a : x ≢ 8 = out.0 in let b : x ≢ 5 = out.1.1.1.0 in grind (arith, nat_tests)
 
   module _ (none : view.frees ≡ []) where
     no_chain : value s.registers 8 ≡ 0
@@ -119,7 +119,7 @@ module _ (code : Code) (pool : Pool) (view : View) (s : Processor) (stands : Sta
         let b = then_one stands a (λ on. leads-addi on {v = view.border} has_border.1.0 copied (next-is stands (s.pc + 4 + 4 + 4 + 4 + 4) _ has_border.1.1.0)) in
         let c = then_one stands b (λ on. leads-addi on {v = view.border + cell_size} has_border.1.1.0 risen (next-is stands (s.pc + 4 + 4 + 4 + 4 + 4 + 4) _ has_border.1.1.1.0)) in
         let t = record s {
-          registers = put 18 (view.border + cell_size) (put 10 view.border s.registers);
+          registers = put 18 (view.border + cell_size) (put 5 view.border s.registers);
           pc = s.pc + 4 + 4 + 4 + 4 + 4 + 4 + 4;
           executed = s.executed + 1 + 1 + 1 + 1;
         } in
@@ -140,8 +140,8 @@ module _ (code : Code) (pool : Pool) (view : View) (s : Processor) (stands : Sta
           },
         )
       where
-        kept : (next cell x : ℕ) → KeptBy (Routine Take) x → value (put 18 next (put 10 cell s.registers)) x ≡ value s.registers x
-        kept next cell x out = let a : x ≢ 18 = out.1.1.0 in let b : x ≢ 10 = out.1.1.1.1.0 in grind (arith, nat_tests)
+        kept : (next cell x : ℕ) → KeptBy (Routine Take) x → value (put 18 next (put 5 cell s.registers)) x ≡ value s.registers x
+        kept next cell x out = let a : x ≢ 18 = out.1.1.0 in let b : x ≢ 5 = out.1.1.1.0 in grind (arith, nat_tests)
 
         rises : (border first cells : ℕ) → first % 32 ≡ 0 → border % 32 ≡ 0 → border < first + 32 * cells → first + 32 * cells < 2 ^ 32 → (border + 32) % 2 ^ 32 ≡ border + 32
         rises border first cells a b before below = omega arith
@@ -174,15 +174,17 @@ module _ (code : Code) (pool : Pool) (view : View) (s : Processor) (stands : Sta
           let below = memory.usable.below in
           let not_null : value s.registers 9 ≢ 0 = λ none. absurd (omega arith) in
           let to : sum_word (value s.registers 9) 0 ≡ link.cell = rw is (omega arith) in
-          let to_second : sum_word (value s.registers 9) 4 ≡ link.cell + 4 = rw is (omega arith) in
+          let back_to : sum_word link.cell 0 ≡ link.cell = omega arith in
+          let to_second : sum_word link.cell 4 ≡ link.cell + 4 = omega arith in
+          let kept_link : word (with_number link.slot 4 0 s.memory) link.cell ≡ word s.memory link.cell = (newest_inside pool view s (emptied s link.slot) memory link links newest refl refl).same link.cell behind (omega arith) in
           let to_slot : sum_word link.slot 0 ≡ link.slot = omega arith in
           let a = then_one stands to_held (λ on. leads-beq_not_taken on has_held.0 not_null (next-is stands (s.pc + 4 + 4 + 4 + 4 + 4 + 4 + 4 + 4) _ has_held.1.0)) in
           let b = then_one stands a (λ on. leads-addi on {v = link.cell} has_held.1.0 to (next-is stands (s.pc + 4 + 4 + 4 + 4 + 4 + 4 + 4 + 4 + 4) _ has_held.1.1.0)) in
           let c = then_one stands b (λ on. leads-lw on {at = link.cell + 4} {v = link.slot} has_held.1.1.0 to_second (omega arith) (memory.usable.loads (link.cell + 4) (omega arith) (omega arith)) held.names_slot (next-is stands (s.pc + 4 + 4 + 4 + 4 + 4 + 4 + 4 + 4 + 4 + 4) _ has_held.1.1.1.0)) in
-          let d = then_one stands c (λ on. leads-lw on {at = link.cell} {v = word s.memory link.cell} has_held.1.1.1.0 to (omega arith) (memory.usable.loads link.cell behind (omega arith)) refl (next-is stands (s.pc + 4 + 4 + 4 + 4 + 4 + 4 + 4 + 4 + 4 + 4 + 4) _ has_held.1.1.1.1.0)) in
-          let e = then_one stands d (λ on. leads-sw on {at = link.slot} {v = 0} has_held.1.1.1.1.0 to_slot refl held.is_slot.aligned held.is_slot.stores (next-is stands (s.pc + 4 + 4 + 4 + 4 + 4 + 4 + 4 + 4 + 4 + 4 + 4 + 4) _ has_held.1.1.1.1.1.0)) in
+          let d = then_one stands c (λ on. leads-sw on {at = link.slot} {v = 0} has_held.1.1.1.0 to_slot refl held.is_slot.aligned held.is_slot.stores (next-is stands (s.pc + 4 + 4 + 4 + 4 + 4 + 4 + 4 + 4 + 4 + 4 + 4) _ has_held.1.1.1.1.0)) in
+          let e = then_one stands d (λ on. leads-lw on {at = link.cell} {v = word s.memory link.cell} has_held.1.1.1.1.0 back_to (omega arith) (memory.usable.loads link.cell behind (omega arith)) kept_link (next-is stands (s.pc + 4 + 4 + 4 + 4 + 4 + 4 + 4 + 4 + 4 + 4 + 4 + 4) _ has_held.1.1.1.1.1.0)) in
           let t = record s {
-            registers = put 9 (word s.memory link.cell) (put 5 link.slot (put 10 link.cell s.registers));
+            registers = put 9 (word s.memory link.cell) (put 9 link.slot (put 5 link.cell s.registers));
             pc = s.pc + 4 + 4 + 4 + 4 + 4 + 4 + 4 + 4 + 4 + 4 + 4 + 4 + 4;
             memory = with_number link.slot 4 0 s.memory;
             executed = s.executed + 1 + 1 + 1 + 1 + 1 + 1 + 1;
@@ -204,11 +206,10 @@ module _ (code : Code) (pool : Pool) (view : View) (s : Processor) (stands : Sta
             },
           )
         where
-          kept : (next slot cell x : ℕ) → KeptBy (Routine Take) x → value (put 9 next (put 5 slot (put 10 cell s.registers))) x ≡ value s.registers x
+          kept : (next slot cell x : ℕ) → KeptBy (Routine Take) x → value (put 9 next (put 9 slot (put 5 cell s.registers))) x ≡ value s.registers x
           kept next slot cell x out =
               let a : x ≢ 9 = out.1.0 in
-              let b : x ≢ 10 = out.1.1.1.1.0 in
-              let c : x ≢ 5 = out.1.1.1.0 in
+              let b : x ≢ 5 = out.1.1.1.0 in
               grind (arith, nat_tests)
 
           apart : (slot x : ℕ) → (x < slot) ⊎ (slot + 4 ≤ x) → with_number slot 4 0 s.memory x ≡ s.memory x

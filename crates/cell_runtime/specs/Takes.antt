@@ -40,7 +40,7 @@ pub record AfterTake (code : Code) (pool : Pool) (view : View) (s t : Processor)
   pub count : ℕ
   pub taken : Taken pool view cell then_view slot count
   pub returns : Returns code (Routine Take) count s t
-  pub gives : value t.registers 10 ≡ cell
+  pub gives : value t.registers 5 ≡ cell
   pub cells : Memory pool then_view t
   pub memory : EmptiesSlot slot s t
   pub left : t.left ≡ s.left

@@ -20,29 +20,29 @@ const HELD: u32 = 1;
 /// In `take`: where there is no cell.
 const FULL: u32 = 2;
 
-/// Gives a cell in `a0`: the first one of the chain in `s0`, else the first one that was never used, else the newest held
+/// Gives a cell in `t0`: the first one of the chain in `s0`, else the first one that was never used, else the newest held
 /// token, whose slot loses it. Where there is none it exits.
 pub fn take() -> [Native; 20]
     ensures { Makes (linked result) 17 0 (λ memory. IsTakeOfPools) }
 {
     [
         beq(Register::S0, Register::ZERO, FRESH),
-        addi(Register::A0, Register::S0, small(0)),
+        addi(Register::T0, Register::S0, small(0)),
         lw(Register::S0, Register::S0, small(0)),
         ret(),
         // The chain is empty: the border rises by a cell.
         label(FRESH),
         beq(Register::S2, Register::S3, HELD),
-        addi(Register::A0, Register::S2, small(0)),
+        addi(Register::T0, Register::S2, small(0)),
         addi(Register::S2, Register::S2, small(CELL_SIZE)),
         ret(),
         // All cells were used.
         label(HELD),
         beq(Register::S1, Register::ZERO, FULL),
-        addi(Register::A0, Register::S1, small(0)),
-        lw(Register::T0, Register::S1, small(4)),
-        lw(Register::S1, Register::S1, small(0)),
-        sw(Register::ZERO, small(0), Register::T0),
+        addi(Register::T0, Register::S1, small(0)),
+        lw(Register::S1, Register::T0, small(4)),
+        sw(Register::ZERO, small(0), Register::S1),
+        lw(Register::S1, Register::T0, small(0)),
         ret(),
         // There is no cell.
         label(FULL),

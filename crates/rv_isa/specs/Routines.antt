@@ -14,7 +14,7 @@ taken_by Routine.ReadByte = []
 
 -- the register in which a routine gives its answer
 abbrev pub given_by : Routine → Option ℕ
-given_by Routine.Take = Some 10
+given_by Routine.Take = Some 5
 given_by Routine.Drop = None
 given_by Routine.PrintInt = None
 given_by Routine.PrintText = None
@@ -22,7 +22,7 @@ given_by Routine.ReadByte = Some 10
 
 -- the registers that a routine may change, beside those that no value has
 abbrev pub spoilt_by : Routine → List ℕ
-spoilt_by Routine.Take = 5 ∷ 10 ∷ []
+spoilt_by Routine.Take = 5 ∷ []
 spoilt_by Routine.Drop = 5 ∷ 10 ∷ 11 ∷ 12 ∷ 13 ∷ []
 spoilt_by Routine.PrintInt = 5 ∷ 6 ∷ 7 ∷ 10 ∷ 11 ∷ 12 ∷ 13 ∷ 17 ∷ 28 ∷ 29 ∷ 30 ∷ 31 ∷ []
 spoilt_by Routine.PrintText = 5 ∷ 10 ∷ 11 ∷ 12 ∷ 13 ∷ 17 ∷ []

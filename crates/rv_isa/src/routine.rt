@@ -35,7 +35,8 @@ impl Routine {
         ensures { result ≡ given_by self }
     {
         match self {
-            Routine::Take | Routine::ReadByte => Some(10),
+            Routine::Take => Some(5),
+            Routine::ReadByte => Some(10),
             Routine::Drop | Routine::PrintInt | Routine::PrintText => None,
         }
     }
@@ -45,7 +46,7 @@ impl Routine {
         ensures { result ≡ is_spoilt_by self register }
     {
         match self {
-            Routine::Take => matches!(register, 5 | 10),
+            Routine::Take => register == 5,
             Routine::Drop => matches!(register, 5 | 10..=13),
             Routine::PrintInt => matches!(register, 5..=7 | 10..=13 | 17 | 28..=31),
             Routine::PrintText | Routine::ReadByte => matches!(register, 5 | 10..=13 | 17),

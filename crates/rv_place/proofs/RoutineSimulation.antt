@@ -467,17 +467,17 @@ module _ {map_of : Map} {pool : Pool} {functions : List PlacedLines} {depth buff
 
     -- ---- cells
 
-    -- what a routine gives goes to the first register of arguments, or is lost
-    given_word : (most word : ℕ) (g : Frame PlacedLine) (gs : List (Frame PlacedLine)) (known' : ℕ → Option ℕ) (world' : World) (t : Processor) → Agrees known' t.registers → value t.registers 10 ≡ word → word < 2 ^ 32
+    -- the cell that a request gives comes to the first register of scratch, or is lost
+    given_word : (most word : ℕ) (g : Frame PlacedLine) (gs : List (Frame PlacedLine)) (known' : ℕ → Option ℕ) (world' : World) (t : Processor) → Agrees known' t.registers → value t.registers 5 ≡ word → word < 2 ^ 32
         → ((known'' : ℕ → Option ℕ) → Agrees known'' t.registers → Comes map_of pool functions depth stop code parts most old (placed_goes g gs known'' world') s)
         → (o : Option Operand) → gives_into (Routine Take) o ≡ true → placed_gives o word g gs known' world' ≡ turn → Comes map_of pool functions depth stop code parts most old turn s
     given_word most word g gs known' world' t agrees word_is fits comes None gives is = subst (λ u. Comes map_of pool functions depth stop code parts most old u s) is (comes known' agrees)
     given_word most word g gs known' world' t agrees word_is fits comes (Some o) gives is = at_place o.place gives is
       where
-        at_place : (place : Place) → is_in 10 place ≡ true → placed_writes place (Some word) g gs known' world' ≡ turn → Comes map_of pool functions depth stop code parts most old turn s
+        at_place : (place : Place) → is_in 5 place ≡ true → placed_writes place (Some word) g gs known' world' ≡ turn → Comes map_of pool functions depth stop code parts most old turn s
         at_place (slot k) gives is = cc
         at_place (register r) gives is =
-            let number : r.number ≡ 10 = eqb-true r.number 10 gives in
+            let number : r.number ≡ 5 = eqb-true r.number 5 gives in
             let with_word : Agrees (put r.number (Some word) known') t.registers =
             agrees_put r.number (Some word) known' t.registers t.registers agrees (rw number refl)
             (λ w same. let e : word ≡ w = cc in (rw number (word_is ∙ e), subst (λ v. v < 2 ^ 32) e fits)) (λ x handed apart. refl) in
@@ -525,7 +525,7 @@ module _ {map_of : Map} {pool : Pool} {functions : List PlacedLines} {depth buff
     -- ---- take
 
     -- a free cell was given
-    take_free : (cell count : ℕ) (next : Cells) (start : Begins ground.take.0) (t : Processor) → Back Take count t → count ≤ 8 → cell < 2 ^ 32 → value t.registers 10 ≡ cell → t.memory ≡ s.memory → t.trace ≡ s.trace → t.left ≡ s.left
+    take_free : (cell count : ℕ) (next : Cells) (start : Begins ground.take.0) (t : Processor) → Back Take count t → count ≤ 8 → cell < 2 ^ 32 → value t.registers 5 ≡ cell → t.memory ≡ s.memory → t.trace ≡ s.trace → t.left ≡ s.left
         → ((newest : Option ℕ) → request pool newest world.cells ≡ Some (cell, next, false)) → HoldsCells pool next links_here t → gives_into (Routine Take) into ≡ true
         → placed_served into (behind ∷ fs) (kept_by (Routine Take) known) (takes_cell (request pool (top (f ∷ fs)) world.cells) world) ≡ turn → Comes map_of pool functions depth stop code parts 10 old turn s
     take_free cell count next start t back_at few fits word_is same trace left request_is holds gives is =
@@ -536,7 +536,7 @@ module _ {map_of : Map} {pool : Pool} {functions : List PlacedLines} {depth buff
         (λ known' agrees. cells_come 10 next t (behind ∷ fs) known' back_at refl (omega arith) stand refl (ap (λ m. bytes_at m map_of.constants.first (constant_bytes map_of)) same) trace left agrees holds) into gives served_is
 
     -- the newest held token was taken
-    take_held : (link : Link) (left_links : List Link) (count : ℕ) (next : Cells) (start : Begins ground.take.0) (t : Processor) → Back Take count t → count ≤ 8 → link.cell < 2 ^ 32 → link.cell ≢ 0 → value t.registers 10 ≡ link.cell
+    take_held : (link : Link) (left_links : List Link) (count : ℕ) (next : Cells) (start : Begins ground.take.0) (t : Processor) → Back Take count t → count ≤ 8 → link.cell < 2 ^ 32 → link.cell ≢ 0 → value t.registers 5 ≡ link.cell
         → number_at t.memory link.slot 4 ≡ 0 → KeepsOutside link.slot 4 s t → t.trace ≡ s.trace → t.left ≡ s.left → links_here ≡ link ∷ left_links → request pool (Some link.cell) world.cells ≡ Some (link.cell, next, true)
         → HoldsCells pool next left_links t → gives_into (Routine Take) into ≡ true
         → placed_served into (behind ∷ fs) (kept_by (Routine Take) known) (takes_cell (request pool (top (f ∷ fs)) world.cells) world) ≡ turn → Comes map_of pool functions depth stop code parts 10 old turn s
@@ -579,7 +579,7 @@ module _ {map_of : Map} {pool : Pool} {functions : List PlacedLines} {depth buff
         (passes_to_exit ground done exits)
         (refl, exits.trace ∙ (done.trace_is ∙ running.trace), (links_here, cells_ended (cells_begin start) exits)) (omega arith) (omega (arith, jump_most forms.jumps)))
 
-    take_case : (start : Begins ground.take.0) (t : Processor) (cell count : ℕ) (slot_lost : Option ℕ) → Back Take count t → count ≤ 8 → IsCell pool cell → value t.registers 10 ≡ cell → EmptiesSlot slot_lost start.called.after t
+    take_case : (start : Begins ground.take.0) (t : Processor) (cell count : ℕ) (slot_lost : Option ℕ) → Back Take count t → count ≤ 8 → IsCell pool cell → value t.registers 5 ≡ cell → EmptiesSlot slot_lost start.called.after t
         → t.trace ≡ s.trace → t.left ≡ s.left → TakenBlock pool world.cells links_here t cell slot_lost → gives_into (Routine Take) into ≡ true
         → placed_served into (behind ∷ fs) (kept_by (Routine Take) known) (takes_cell (request pool (top (f ∷ fs)) world.cells) world) ≡ turn → Comes map_of pool functions depth stop code parts 10 old turn s
     take_case start t cell count None back_at few is_cell word_is memory trace left (of_free next request_is holds) gives is =

@@ -208,6 +208,7 @@ gives_result action (Some v) gives = gives_number action (gives refl)
 
 result_loadable : (action : Action) → IsLoadable (numbered (result_register action))
 result_loadable (Compute operation) = (refl, refl)
+result_loadable (Routine Take) = (refl, refl)
 result_loadable action = (refl, refl)
 
 -- no result is lost

@@ -7,7 +7,8 @@ use Rattle.std.proofs.Common.{lit<}
 use Rattle.std.proofs.Math.Nat.{mod-lt}
 use Rattle.rv_isa.specs.declared.register.Register.{Register}
 use Rattle.rv_isa.specs.declared.asm.Action.{Action}
-use Rattle.rv_isa.specs.declared.asm.Action.TheVariants.{Compute, Branch, Hold, Unhold}
+use Rattle.rv_isa.specs.declared.asm.Action.TheVariants.{Compute, Branch, Routine, Hold, Unhold}
+use Rattle.rv_isa.specs.declared.routine.Routine.TheVariants.{Take}
 use Rattle.rv_isa.specs.declared.placed.Place.{Place}
 use Rattle.rv_isa.specs.declared.placed.Place.TheVariants.{Register as register, Slot as slot}
 use Rattle.rv_isa.specs.declared.placed.Operand.{Operand}
@@ -65,6 +66,7 @@ first_register _ = argument 0
 -- where the result comes
 abbrev pub result_register : Action → ℕ
 result_register (Compute operation) = 7
+result_register (Routine Take) = 5
 result_register _ = argument 0
 
 -- the values in registers from the n-th on. A value that comes again later is loaded there alone.

@@ -15,7 +15,7 @@ use crate::state::{
 use kk_base::NoMemory;
 use rv_isa::{
     Action, AsmFunction, Item, Listed, Operand, Operation, Place, PlacedFunction, Register,
-    Statement,
+    Routine, Statement,
 };
 use std::alloc::Global;
 
@@ -365,6 +365,7 @@ fn result_for(
             register_for(walk, &[], plan, value, idle)
         }
         Action::Unhold => register_for(walk, &[], plan, value, None),
+        Action::Routine(Routine::Take) => Ok(Register::T0),
         _ => Ok(Register::A0),
     }
 }

@@ -13,7 +13,7 @@ ghost use Rattle.rv_regs.specs.Views.{lists_of};
 
 use crate::liveness::{Point, is_one_of};
 use kk_base::NoMemory;
-use rv_isa::{Action, Listed, Operand, Place, Register};
+use rv_isa::{Action, Listed, Operand, Place, Register, Routine};
 use std::alloc::Global;
 
 /// A value that is in a register for a while.
@@ -46,6 +46,7 @@ pub fn register_of_result(action: Action) -> Register
 {
     match action {
         Action::Compute(_) => Register::T2,
+        Action::Routine(Routine::Take) => Register::T0,
         _ => Register::A0,
     }
 }

@@ -20,8 +20,8 @@ returns c =
     (then_branch c.beq-3.ensures refl refl
     (then_plain c.addi-4.ensures (same_addi refl refl c.small-5.ensures)
     (then_plain c.lw-2.ensures (same_lw refl refl c.small-6.ensures)
-    (then_plain c.lw-3.ensures (same_lw refl refl c.small-7.ensures)
-    (then_plain c.sw.ensures (same_sw refl refl c.small-8.ensures)
+    (then_plain c.sw.ensures (same_sw refl refl c.small-7.ensures)
+    (then_plain c.lw-3.ensures (same_lw refl refl c.small-8.ensures)
     (then_back c.ret-3.ensures refl refl refl
     (then_label c.label-3.ensures
     (then_set c.set.ensures refl refl (sym c.number.ensures.number)
