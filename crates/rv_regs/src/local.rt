@@ -160,7 +160,7 @@ fn loads_for(state: &[Listed], args: &[u32]) -> usize {
         .count()
 }
 
-// A value that is alive behind a copy leaves a register.
+// A value that is alive behind a computation leaves a register.
 fn leave_wished(
     alloc: Global,
     walk: &mut Walk,
@@ -179,17 +179,22 @@ fn leave_wished(
     }
 }
 
-// Another value leaves the register that the result of a copy wishes for: it goes to its slot, where it has to be on each way on,
-// or to a register that it wishes for itself.
+// Another value leaves the register that the result of a computation wishes for: it goes to its slot, where it has to be on each way
+// on, or to a register that it wishes for itself. A constant that a register holds always, and a value that a label ahead has in
+// another register, need no room.
 fn make_room(
     alloc: Global,
     walk: &mut Walk,
     statement: &Statement,
     behind: &Plan,
 ) -> Result<(), NoMemory> {
-    let (Action::Compute(Operation::Mv), Some(value)) = (statement.action, statement.into) else {
+    let (Action::Compute(_), Some(value)) = (statement.action, statement.into) else {
         return Ok(());
     };
+    let is_kept = kept_register(walk, &statement.args, &behind.ahead, value).is_some();
+    if is_kept || statement.action.home().is_some() {
+        return Ok(());
+    }
     let loads = loads_for(&walk.state, &statement.args);
     for wish in &behind.wishes {
         if wish.value == value && walk.left > loads {
