@@ -201,16 +201,16 @@ module _ {map_of : Map} {pool : Pool} {functions : List PlacedLines} {depth buff
     reference = value s.registers a.number
 
     dup_last : s.pc + 4 * 5 < 2 ^ 32
-    dup_last = let last = ground.below (s.pc + 4 + 4 + 4 + 4) _ raises.6.1.1.1.1.0 in omega arith
+    dup_last = let last = ground.below (s.pc + 4 + 4 + 4 + 4) _ raises.5.2.1.1.0 in omega arith
 
     over_target : sum_word (s.pc + 4) raises.1.word ≡ s.pc + 4 * 5
-    over_target = let below = dup_last in rw raises.4 (omega arith)
+    over_target = let below = dup_last in rw raises.3 (omega arith)
 
     bit_gets : Gets pool.cells code 1 (1 ∷ []) 1 (bit_and (value s.registers a.number) raises.0.word) (s.pc + 4) s
-    bit_gets = plain_gets pool.cells ground.below running.rests.stands refl (immediate_row Andi ra a raises.0) raises.6.0
+    bit_gets = plain_gets pool.cells ground.below running.rests.stands refl (immediate_row Andi ra a raises.0) raises.4.0
 
     bit_is : (b : ℕ) → reference % 2 ≡ b → value bit_gets.after.registers 1 ≡ b
-    bit_is b is = bit_gets.value_is (λ e. cc) ∙ ap (λ w. bit_and reference w) raises.3 ∙ bit_of_word reference b is
+    bit_is b is = bit_gets.value_is (λ e. cc) ∙ ap (λ w. bit_and reference w) raises.2 ∙ bit_of_word reference b is
 
     -- an odd reference names no cell: the branch leads over all
     odd_comes : reference % 2 ≡ 1 → Comes map_of pool functions depth stop code parts 5 old (placed_goes behind fs known world) s
@@ -218,7 +218,7 @@ module _ {map_of : Map} {pool : Pool} {functions : List PlacedLines} {depth buff
         let bit = bit_is 1 odd in
         let word = running.frames.0.at_word in
         let taken = branch_taken pool.cells ground.below bit_gets.done.stands (s.pc + 4) bit_gets.done.pc_is NotEqual ra zero_register
-        (s.pc + 4 * 5) Near Near (raises.1, over_target, raises.6.1.0) (omega arith) (rw bit refl) in
+        (s.pc + 4 * 5) Near Near (raises.1, over_target, raises.4.1.0) (omega arith) (rw bit refl) in
         same_comes OfOperation.Dup is_in 5 taken.after (done_on bit_gets.done taken.done) ((λ e. cc), ((λ e. cc), ((λ e. cc), tt)))
         (refl, (refl, (refl, tt))) refl (λ bare. absurd (false≢true (sym bare ∙ takes))) dup_last (omega arith) (omega arith)
 
@@ -242,24 +242,24 @@ module _ {map_of : Map} {pool : Pool} {functions : List PlacedLines} {depth buff
         let misses : MissesFree pool.cells s reference = subst (MissesFree pool.cells s) here
         (apart_misses running.cells (reference + 0) loaded.0.no_free) in
         let passed = branch_passed pool.cells ground.below bit_gets.done.stands (s.pc + 4) bit_gets.done.pc_is NotEqual ra zero_register
-        (s.pc + 4 * 5) Near Near (raises.1, over_target, raises.6.1.0) (rw bit refl) in
+        (s.pc + 4 * 5) Near Near (raises.1, over_target, raises.4.1.0) (rw bit refl) in
         let two = done_on bit_gets.done passed.done in
         let base : (u : Processor) → value u.registers a.number ≡ reference
-        → sum_word (value u.registers a.number) raises.2.word ≡ reference
-        = λ u same. rw (same, raises.5) (let below = inside.1 in let high = inside.0 in omega arith) in
-        let third = load_gets pool.cells ground.below two.stands {at = s.pc + 4 + 4} two.pc_is {rd = ra} {base = a} {offset = raises.2}
-        {address = reference} {word = count} raises.6.1.1.0
+        → sum_word (value u.registers a.number) raises.5.0.word ≡ reference
+        = λ u same. rw (same, raises.5.1) (let below = inside.1 in let high = inside.0 in omega arith) in
+        let third = load_gets pool.cells ground.below two.stands {at = s.pc + 4 + 4} two.pc_is {rd = ra} {base = a} {offset = raises.5.0}
+        {address = reference} {word = count} raises.5.2.0
         (base passed.after (two.kept a.number (apart, tt))) aligned (rw two.parts_are may_load)
         (ap (λ m. number_at m reference 4) two.memory_is ∙ count_is)
         (misses_done reference two ((λ e. cc), tt) ((λ e. cc), tt) ((λ e. cc), tt) misses) in
         let three = done_on two third.done in
         let fourth = plain_gets pool.cells ground.below three.stands {at = s.pc + 4 + 4 + 4} three.pc_is
-        (addi_row ra ra raises.0) raises.6.1.1.1.0 in
+        (addi_row ra ra raises.0) raises.5.2.1.0 in
         let four = done_on three fourth.done in
         let raised_is : value fourth.after.registers 1 ≡ v = fourth.value_is (λ e. cc)
-        ∙ rw (third.value_is (λ e. cc), raises.3) refl in
+        ∙ rw (third.value_is (λ e. cc), raises.2) refl in
         let fifth = store_goes pool.cells ground.below four.stands {at = s.pc + 4 + 4 + 4 + 4} four.pc_is {base = a} {from = ra}
-        {offset = raises.2} {address = reference} {word = v} raises.6.1.1.1.1.0
+        {offset = raises.5.0} {address = reference} {word = v} raises.5.2.1.1.0
         (base fourth.after (four.kept a.number (apart, (apart, (apart, tt))))) raised_is aligned (rw four.parts_are may_store)
         (misses_done reference four ((λ e. cc), ((λ e. cc), ((λ e. cc), tt))) ((λ e. cc), ((λ e. cc), ((λ e. cc), tt)))
         ((λ e. cc), ((λ e. cc), ((λ e. cc), tt))) misses) in

@@ -467,7 +467,7 @@ module _ {map_of : Map} {pool : Pool} {functions : List PlacedLines} {depth buff
 
     -- ---- cells
 
-    -- the cell that a request gives comes to the first register of scratch, or is lost
+    -- the cell that a request gives comes to x5, or is lost
     given_word : (most word : ℕ) (g : Frame PlacedLine) (gs : List (Frame PlacedLine)) (known' : ℕ → Option ℕ) (world' : World) (t : Processor) → Agrees known' t.registers → value t.registers 5 ≡ word → word < 2 ^ 32
         → ((known'' : ℕ → Option ℕ) → Agrees known'' t.registers → Comes map_of pool functions depth stop code parts most old (placed_goes g gs known'' world') s)
         → (o : Option Operand) → gives_into (Routine Take) o ≡ true → placed_gives o word g gs known' world' ≡ turn → Comes map_of pool functions depth stop code parts most old turn s

@@ -148,13 +148,15 @@ BranchesOn jumps Near code at condition a b target =
 BranchesOn jumps Far code at condition a b target = BranchesFar jumps code at condition a b target
 BranchesOn jumps Wide code at condition a b target = BranchesFar jumps code at condition a b target
 
--- The count of the cell to which a register refers is raised: it is loaded to ra, and stored again. A branch leads over this
--- where the reference
--- is odd, which names no cell.
+-- The count of the cell to which a register refers is raised by a number: it is loaded to ra, and stored again.
+abbrev pub RaisesBy : Immediate → Register → Code → ℕ → Type 0
+RaisesBy number a code at = (zero : Immediate) × Zero zero × Has code at (Instr.Lw ra a zero ∷ Instr.Addi ra ra number ∷ Instr.Sw a ra zero ∷ [])
+
+-- It is raised by 1, but where the reference is odd, which names no cell: then a branch leads over this.
 abbrev pub RaisesCount : Code → ℕ → Register → Type 0
 RaisesCount code at a =
-    (one : Immediate) × (over : BranchOffset) × (zero : Immediate) × (one.word ≡ 1) × (over.word ≡ 16) × Zero zero
-    × Has code at (Instr.Andi ra a one ∷ Instr.Bne ra zero_register over ∷ Instr.Lw ra a zero ∷ Instr.Addi ra ra one ∷ Instr.Sw a ra zero ∷ [])
+    (one : Immediate) × (over : BranchOffset) × (one.word ≡ 1) × (over.word ≡ 16)
+    × Has code at (Instr.Andi ra a one ∷ Instr.Bne ra zero_register over ∷ []) × RaisesBy one a code (at + 4 + 4)
 
 -- how many instructions lower a count
 abbrev pub words_to_lower : ℕ

@@ -7,7 +7,7 @@ ghost use Rattle.rv_isa.specs.declared.register.Register.{Register};
 ghost use Rattle.rv_isa.specs.declared.instr.Instr.TheVariants.{Sw};
 ghost use Rattle.rv_isa.specs.declared.immediate.Immediate.{Immediate};
 ghost use Rattle.rv_place.specs.Addresses.{greatest_frame, is_at_pointer, slot_offset};
-ghost use Rattle.rv_place.specs.Instructions.{RaisesCount, FreesToken, NamesSlot, words_to_name, LinksToken, HoldsToken, words_to_hold, UnholdsToken};
+ghost use Rattle.rv_place.specs.Instructions.{RaisesBy, RaisesCount, FreesToken, NamesSlot, words_to_name, LinksToken, HoldsToken, words_to_hold, UnholdsToken};
 ghost use Rattle.rv_place.specs.Lines.{IsFromPointer, token_into};
 ghost use Rattle.rv_place.specs.Emitted.{Grew, TokenBy};
 
@@ -16,6 +16,37 @@ use crate::operations::register_or_zero;
 use crate::reach::{Reach, words_to_name};
 use kk_base::NoMemory;
 use rv_isa::{BranchOffset, Immediate, Instr, Operand, Place, Register};
+
+/// Raises the count of the cell to which a register refers by a number.
+fn emit_raised(code: &mut Vec<Instr>, cell: Register, number: Immediate) -> Result<(), NoMemory>
+    ensures { OnOk result (Grew 3 (RaisesBy number cell) code.old.items code.new.items) }
+{
+    emit(
+        code,
+        Instr::Lw {
+            rd: Register::RA,
+            rs1: cell,
+            imm: Immediate::ZERO,
+        },
+    )?;
+    emit(
+        code,
+        Instr::Addi {
+            rd: Register::RA,
+            rs1: Register::RA,
+            imm: number,
+        },
+    )?;
+    emit(
+        code,
+        Instr::Sw {
+            rs1: cell,
+            rs2: Register::RA,
+            imm: Immediate::ZERO,
+        },
+    )?;
+    Ok(())
+}
 
 /// Raises the count of the cell to which a register refers; an odd reference names none.
 pub fn emit_dup(code: &mut Vec<Instr>, reference: Register) -> Result<(), NoMemory>
@@ -39,30 +70,7 @@ pub fn emit_dup(code: &mut Vec<Instr>, reference: Register) -> Result<(), NoMemo
             offset: over,
         },
     )?;
-    emit(
-        code,
-        Instr::Lw {
-            rd: Register::RA,
-            rs1: reference,
-            imm: Immediate::ZERO,
-        },
-    )?;
-    emit(
-        code,
-        Instr::Addi {
-            rd: Register::RA,
-            rs1: Register::RA,
-            imm: one,
-        },
-    )?;
-    emit(
-        code,
-        Instr::Sw {
-            rs1: reference,
-            rs2: Register::RA,
-            imm: Immediate::ZERO,
-        },
-    )?;
+    emit_raised(code, reference, one)?;
     Ok(())
 }
 
