@@ -88,6 +88,21 @@ fn store_for(
     Ok(())
 }
 
+/// A value leaves the register where it stands: for its copy, where another register has one, which is its place then; else for any.
+pub fn make_way(alloc: Global, walk: &mut Walk, listed: Listed) -> Result<(), NoMemory> {
+    match listed.copy {
+        Some(register) => {
+            let after = placed_in(listed, register);
+            walk.state = state_listing(alloc, &walk.state, after)?;
+            Ok(())
+        }
+        None => {
+            let to = spare_register(walk, &[])?;
+            put_away(alloc, walk, listed, to)
+        }
+    }
+}
+
 // Each value comes to where it stands at the label.
 fn reach(alloc: Global, walk: &mut Walk, goals: &[Listed], care: &Care) -> Result<(), NoMemory> {
     store_for(alloc, walk, goals, care)?;
@@ -96,8 +111,7 @@ fn reach(alloc: Global, walk: &mut Walk, goals: &[Listed], care: &Care) -> Resul
             Some(next) => put_away(alloc, walk, next.listed, next.to)?,
             None => {
                 if let Some(listed) = next_in_the_way(&walk.state, goals) {
-                    let to = spare_register(walk, &[])?;
-                    put_away(alloc, walk, listed, to)?;
+                    make_way(alloc, walk, listed)?;
                 }
             }
         }
@@ -105,22 +119,28 @@ fn reach(alloc: Global, walk: &mut Walk, goals: &[Listed], care: &Care) -> Resul
     Ok(())
 }
 
+// The copy of a value at a label, if both ways there have it.
+fn copy_on_both(goal: Listed, listed: Listed) -> Option<Register> {
+    match (goal.copy, listed.copy) {
+        (Some(a), Some(b)) if a.number == b.number => goal.copy,
+        _ => None,
+    }
+}
+
 // Where a value stands at a label, by where it stands on the ways so far and on one more.
 fn on_both_ways(goal: Listed, listed: Listed) -> Listed {
     match (goal.place, listed.place) {
-        (Place::Slot(_), Place::Slot(_)) => {
-            let is_same = match (goal.copy, listed.copy) {
-                (Some(a), Some(b)) => a.number == b.number,
-                _ => false,
-            };
-            Listed {
-                copy: if is_same { goal.copy } else { None },
-                ..goal
-            }
-        }
+        (Place::Slot(_), Place::Slot(_)) => Listed {
+            copy: copy_on_both(goal, listed),
+            ..goal
+        },
         (Place::Slot(_), Place::Register(_)) => Listed {
             copy: None,
             ..listed
+        },
+        (Place::Register(a), Place::Register(b)) if a.number == b.number => Listed {
+            copy: copy_on_both(goal, listed),
+            ..goal
         },
         (Place::Register(_), _) => Listed { copy: None, ..goal },
     }
@@ -234,24 +254,37 @@ pub fn kept_register(walk: &Walk, keep: &[u32], ahead: &[u32], value: u32) -> Op
     None
 }
 
-/// Where values stand here, by the state, they stand at the label too.
+/// Where values stand here, they stand at the label too.
 pub fn join(
     alloc: Global,
-    kept: &mut Vec<KeptState>,
-    state: &[Listed],
+    walk: &mut Walk,
     label: u32,
     plans: &Plans,
     care: &Care,
 ) -> Result<(), NoMemory> {
-    let at = index_of(kept, label);
-    if at < kept.len() {
-        let state = joined(alloc, &kept[at].state, state)?;
-        kept[at].state = state;
+    let at = index_of(&walk.kept, label);
+    if at < walk.kept.len() {
+        let state = joined(alloc, &walk.kept[at].state, &walk.state)?;
+        walk.kept[at].state = state;
     } else {
-        let state = found_first(alloc, state, label, plans, care)?;
-        kept.push(KeptState { label, state })?;
+        let state = found_first(alloc, &walk.state, label, plans, care)?;
+        walk.kept.push(KeptState {
+            label,
+            from: walk.index,
+            state,
+        })?;
     }
     Ok(())
+}
+
+/// The index of the statement from which the first way led to a label.
+pub fn index_from(kept: &[KeptState], label: u32) -> Option<usize> {
+    for other in kept {
+        if other.label == label {
+            return Some(other.from);
+        }
+    }
+    None
 }
 
 /// Where values stand at a label, behind all ways to it. It is not kept any longer.
@@ -274,6 +307,8 @@ pub fn take_state(
 #[derive(Debug, Drop)]
 pub struct KeptState {
     pub label: u32,
+    /// The index of the statement from which the first way led there.
+    pub from: usize,
     pub state: Vec<Listed>,
 }
 
@@ -288,8 +323,8 @@ pub struct Walk {
     pub is_reached: bool,
     /// The index of the next statement.
     pub index: usize,
-    /// The index of the last statement.
-    pub last: usize,
+    /// The index of the last statement on the one way here; or `None` behind a label to which more than one way leads.
+    pub last: Option<usize>,
     /// The next labels on the way on from here.
     pub ahead: Vec<u32>,
     /// The moves that may still stand before the next statement.
@@ -325,6 +360,19 @@ fn state_moved(
                 Way::Store { .. } => next.push(*listed)?,
             }
         }
+    }
+    Ok(next)
+}
+
+// The listings, where a value is listed as `after`.
+fn state_listing(alloc: Global, state: &[Listed], after: Listed) -> Result<Vec<Listed>, NoMemory> {
+    let mut next = Vec::new(alloc);
+    for listed in state {
+        next.push(if listed.value == after.value {
+            after
+        } else {
+            *listed
+        })?;
     }
     Ok(next)
 }

@@ -1,7 +1,8 @@
 // The code of a function whose values stay in registers as long as they can.
 
 use crate::joins::{
-    Walk, go_to, join, kept_register, put_away, put_copy, put_store, spare_register, take_state,
+    Walk, go_to, index_from, join, kept_register, make_way, put_away, put_copy, put_store,
+    spare_register, take_state,
 };
 use crate::keeping::may_spoil;
 use crate::liveness::{copy_of, is_one_of};
@@ -67,7 +68,7 @@ fn register_for(
     if let (Some(register), true) = (idle, is_one_of(value, &plan.slotted)) {
         return Ok(register);
     }
-    if let Some(register) = wished_register(&walk.state, keep, &plan.wishes, value) {
+    if let Some(register) = wished_register(&walk.state, keep, plan, value) {
         return Ok(register);
     }
     match idle {
@@ -159,7 +160,7 @@ fn loads_for(state: &[Listed], args: &[u32]) -> usize {
         .count()
 }
 
-// A value that is alive behind a copy leaves a register.
+// A value that is alive behind a computation leaves a register.
 fn leave_wished(
     alloc: Global,
     walk: &mut Walk,
@@ -171,24 +172,29 @@ fn leave_wished(
         put_store(alloc, walk, listed)
     } else if !is_one_of(listed.value, &behind.point.alive) {
         Ok(())
-    } else if let Some(to) = wished_register(&walk.state, args, &behind.wishes, listed.value) {
+    } else if let Some(to) = wished_register(&walk.state, args, behind, listed.value) {
         put_away(alloc, walk, listed, to)
     } else {
         Ok(())
     }
 }
 
-// Another value leaves the register that the result of a copy wishes for: it goes to its slot, where it has to be on each way on,
-// or to a register that it wishes for itself.
+// Another value leaves the register that the result of a computation wishes for: it goes to its slot, where it has to be on each way
+// on, or to a register that it wishes for itself. A constant that a register holds always, and a value that a label ahead has in
+// another register, need no room.
 fn make_room(
     alloc: Global,
     walk: &mut Walk,
     statement: &Statement,
     behind: &Plan,
 ) -> Result<(), NoMemory> {
-    let (Action::Compute(Operation::Mv), Some(value)) = (statement.action, statement.into) else {
+    let (Action::Compute(_), Some(value)) = (statement.action, statement.into) else {
         return Ok(());
     };
+    let is_kept = kept_register(walk, &statement.args, &behind.ahead, value).is_some();
+    if is_kept || statement.action.home().is_some() {
+        return Ok(());
+    }
     let loads = loads_for(&walk.state, &statement.args);
     for wish in &behind.wishes {
         if wish.value == value && walk.left > loads {
@@ -253,8 +259,7 @@ fn arrange(alloc: Global, walk: &mut Walk, args: &[u32]) -> Result<(), NoMemory>
                 put_copy(alloc, walk, next.listed, next.to)?;
             }
         } else if let Some(listed) = next_in_the_way(&walk.state, args) {
-            let to = spare_register(walk, &[])?;
-            put_away(alloc, walk, listed, to)?;
+            make_way(alloc, walk, listed)?;
         }
     }
     Ok(())
@@ -303,22 +308,38 @@ fn stands_as_taken(listed: Listed, args: &[u32]) -> bool {
     false
 }
 
+// Whether a register that the action does not spoil has a copy of the value.
+fn has_safe_copy(listed: Listed, action: Action) -> bool {
+    match listed.copy {
+        Some(register) => !may_spoil(Some(action), register.number),
+        None => false,
+    }
+}
+
 // A value leaves the register where it stands. As an argument that is taken there it stays, and another register has a copy.
 fn leave_place(
     alloc: Global,
     walk: &mut Walk,
     listed: Listed,
-    args: &[u32],
+    statement: &Statement,
     stored: &[u32],
 ) -> Result<(), NoMemory> {
+    let is_taken = stands_as_taken(listed, &statement.args);
     if is_one_of(listed.value, stored) {
-        return put_store(alloc, walk, listed);
-    }
-    let to = spare_register(walk, args)?;
-    if stands_as_taken(listed, args) {
-        put_copy(alloc, walk, listed, to)
+        put_store(alloc, walk, listed)
+    } else if has_safe_copy(listed, statement.action) {
+        if is_taken {
+            Ok(())
+        } else {
+            make_way(alloc, walk, listed)
+        }
     } else {
-        put_away(alloc, walk, listed, to)
+        let to = spare_register(walk, &statement.args)?;
+        if is_taken {
+            put_copy(alloc, walk, listed, to)
+        } else {
+            put_away(alloc, walk, listed, to)
+        }
     }
 }
 
@@ -333,7 +354,7 @@ fn leave_spoilt(
         if let Some(listed) = listing(&walk.state, *value) {
             if let Place::Register(register) = listed.place {
                 if may_spoil(Some(statement.action), register.number) {
-                    leave_place(alloc, walk, listed, &statement.args, &behind.stored)?;
+                    leave_place(alloc, walk, listed, statement, &behind.stored)?;
                 }
             }
         }
@@ -488,29 +509,27 @@ fn prepare(
     }
 }
 
-// What is alive before the last statement, if that is no label.
+// What is alive before the last statement.
 fn alive_before_last(items: &[Item]) -> &[Listed] {
     for item in items.iter().rev() {
-        if let Item::Does { alive, action, .. } = item {
-            return match action {
-                Action::Label(_) => &[],
-                _ => alive,
-            };
+        if let Item::Does { alive, .. } = item {
+            return alive;
         }
     }
     &[]
 }
 
-// Where too many moves stand before a statement, some of their values are due before the last one; or as soon as they are there,
-// where they were not there before it, or are due there already.
-fn blame(alloc: Global, walk: &mut Walk, args: &[u32], care: &Care) -> Result<(), NoMemory> {
-    if walk.excess == 0 {
-        return Ok(());
-    }
-    let moved = copy_of(alloc, &walk.moved)?;
-    let index = walk.last;
+// Some of the values that were moved are due before the statement of this index, while there are too many moves: those that were
+// there before the last statement, and are not due there already.
+fn put_due(
+    walk: &mut Walk,
+    index: usize,
+    moved: &[u32],
+    args: &[u32],
+    care: &Care,
+) -> Result<(), NoMemory> {
     for is_argument in [false, true] {
-        for value in &moved {
+        for value in moved {
             let is_open = is_one_of(*value, args) == is_argument
                 && listing(alive_before_last(&walk.items), *value).is_some()
                 && !care.is_due(index, *value);
@@ -521,6 +540,19 @@ fn blame(alloc: Global, walk: &mut Walk, args: &[u32], care: &Care) -> Result<()
             }
         }
     }
+    Ok(())
+}
+
+// Where too many moves stand before a statement, some of their values are due before the last one, or before the one that leads to
+// the label that is the last one; or as soon as they are there, where that does not do.
+fn blame(alloc: Global, walk: &mut Walk, args: &[u32], care: &Care) -> Result<(), NoMemory> {
+    if walk.excess == 0 {
+        return Ok(());
+    }
+    let moved = copy_of(alloc, &walk.moved)?;
+    if let Some(index) = walk.last {
+        put_due(walk, index, &moved, args, care)?;
+    }
     if walk.excess > 0 {
         walk.early.extend_from_slice(&moved)?;
     }
@@ -528,7 +560,7 @@ fn blame(alloc: Global, walk: &mut Walk, args: &[u32], care: &Care) -> Result<()
 }
 
 // The values that are due before the next statement go to their slots, if they have to be there at some point, or to another
-// register.
+// register, or one that is not soon spoilt has a copy.
 fn pay(alloc: Global, walk: &mut Walk, plan: &Plan, care: &Care) -> Result<(), NoMemory> {
     for due in &care.due {
         if due.index == walk.index {
@@ -537,9 +569,9 @@ fn pay(alloc: Global, walk: &mut Walk, plan: &Plan, care: &Care) -> Result<(), N
                     put_store(alloc, walk, listed)?;
                 } else if let Some(to) = kept_register(walk, &[], &plan.ahead, due.value) {
                     put_away(alloc, walk, listed, to)?;
-                } else if is_soon_spoilt(listed.place) {
+                } else if is_soon_spoilt(listed.place) && listed.copy.is_none() {
                     let to = spare_register(walk, &[])?;
-                    put_away(alloc, walk, listed, to)?;
+                    put_copy(alloc, walk, listed, to)?;
                 }
             }
         }
@@ -552,6 +584,15 @@ fn label_ahead(is_reached: bool, action: Action) -> Option<u32> {
     match action {
         Action::Label(label) if is_reached => Some(label),
         _ => named_label(action),
+    }
+}
+
+// The index that is that of the last statement behind this one: that of the one that leads to a label, where one way alone does.
+fn last_behind(walk: &Walk, action: Action, plans: &Plans) -> Option<usize> {
+    match action {
+        Action::Label(label) if is_one_of(label, &plans.lone) => index_from(&walk.kept, label),
+        Action::Label(_) => None,
+        _ => Some(walk.index),
     }
 }
 
@@ -579,14 +620,15 @@ fn step(
         store_some(alloc, walk, &before.stored, behind)?;
     }
     if let Some(label) = ahead {
-        join(alloc, &mut walk.kept, &walk.state, label, plans, care)?;
+        join(alloc, walk, label, plans, care)?;
     }
+    let last = last_behind(walk, statement.action, plans);
     if let Action::Label(label) = statement.action {
         walk.state = take_state(alloc, &mut walk.kept, label, &before.point)?;
     }
     blame(alloc, walk, &statement.args, care)?;
     put_line(alloc, walk, statement, behind, care)?;
-    walk.last = walk.index;
+    walk.last = last;
     walk.index = walk.index.saturating_add(1);
     walk.is_reached = goes_on(statement.action);
     if !walk.is_reached {
@@ -624,7 +666,7 @@ fn start(alloc: Global, params: &[u32], plan: &Plan, care: &Care) -> Result<Walk
         left: params.len(),
         moved: Vec::new(alloc),
         index: 0,
-        last: 0,
+        last: Some(0),
         excess: 0,
         due: Vec::new(alloc),
         early: Vec::new(alloc),

@@ -63,6 +63,8 @@ pub struct Plan {
     pub crossing: Vec<u32>,
     /// The values that are alive at a later label to which more than one way leads, before any call.
     pub joining: Vec<u32>,
+    /// The values that lines other than copies compute with on some way on from here, before any call and any routine but take.
+    pub read: Vec<u32>,
     pub wishes: Vec<Wish>,
     /// The next labels on the way on from here.
     pub ahead: Vec<u32>,
@@ -91,6 +93,7 @@ struct Walk {
     stored: Vec<LabelPoint>,
     crossing: Vec<LabelPoint>,
     joining: Vec<LabelPoint>,
+    read: Vec<LabelPoint>,
 }
 
 impl Care {
@@ -210,6 +213,38 @@ fn crossing_by(alloc: Global, statement: &Statement, behind: &[u32]) -> Result<V
     }
 }
 
+// The values that are alive behind a later action that spoils some registers, before a statement.
+fn crossing_before(
+    alloc: Global,
+    walk: &Walk,
+    statement: &Statement,
+    behind: &[u32],
+) -> Result<Vec<u32>, NoMemory> {
+    let later = alive_behind(alloc, statement.action, &walk.at.crossing, &walk.crossing)?;
+    let here = crossing_by(alloc, statement, behind)?;
+    alive_before(alloc, &here, statement.into, &later)
+}
+
+// The values that a statement computes with, or branches by. A copy of a value in a register saves nothing where that is copied again:
+// a load takes as long.
+fn read_by(statement: &Statement) -> &[u32] {
+    match statement.action {
+        Action::Compute(Operation::Mv) => &[],
+        Action::Compute(_) | Action::Branch(..) => &statement.args,
+        _ => &[],
+    }
+}
+
+// The values that lines other than copies compute with before any call and any routine but take, before a statement.
+fn read_before(alloc: Global, walk: &Walk, statement: &Statement) -> Result<Vec<u32>, NoMemory> {
+    let later = match statement.action {
+        Action::Routine(Routine::Take) => copy_of(alloc, &walk.at.read)?,
+        action if spoils_some(action) => Vec::new(alloc),
+        action => alive_behind(alloc, action, &walk.at.read, &walk.read)?,
+    };
+    alive_before(alloc, read_by(statement), statement.into, &later)
+}
+
 // The values that come to a label to which more than one way leads, by those behind a statement.
 fn joining_by(
     alloc: Global,
@@ -225,6 +260,24 @@ fn joining_by(
         }
         _ => Ok(Vec::new(alloc)),
     }
+}
+
+// The values that are alive at a later label to which more than one way leads, before a statement and before any call.
+fn joining_before(
+    alloc: Global,
+    walk: &Walk,
+    statement: &Statement,
+    behind: &[u32],
+    lone: &[u32],
+) -> Result<Vec<u32>, NoMemory> {
+    let action = statement.action;
+    let later = if spoils_many(action) {
+        Vec::new(alloc)
+    } else {
+        alive_behind(alloc, action, &walk.at.joining, &walk.joining)?
+    };
+    let here = joining_by(alloc, walk, action, behind, lone)?;
+    alive_before(alloc, &here, statement.into, &later)
 }
 
 // The values that both lists have.
@@ -417,24 +470,14 @@ fn plan_before(
     let later = stored_behind(alloc, walk, action)?;
     let here = slotted_by(alloc, statement, &behind)?;
     let stored = alive_before(alloc, &here, into, &later)?;
-    let later = alive_behind(alloc, action, &walk.at.crossing, &walk.crossing)?;
-    let here = crossing_by(alloc, statement, &behind)?;
-    let crossing = alive_before(alloc, &here, into, &later)?;
-    let later = if spoils_many(action) {
-        Vec::new(alloc)
-    } else {
-        alive_behind(alloc, action, &walk.at.joining, &walk.joining)?
-    };
-    let here = joining_by(alloc, walk, action, &behind, lone)?;
-    let joining = alive_before(alloc, &here, into, &later)?;
-    let wishes = wishes_before(alloc, walk, statement, &behind)?;
     Ok(Plan {
         point: Point { alive, held },
         slotted,
         stored,
-        crossing,
-        joining,
-        wishes,
+        crossing: crossing_before(alloc, walk, statement, &behind)?,
+        joining: joining_before(alloc, walk, statement, &behind, lone)?,
+        read: read_before(alloc, walk, statement)?,
+        wishes: wishes_before(alloc, walk, statement, &behind)?,
         ahead: ahead_before(alloc, walk, action)?,
     })
 }
@@ -458,6 +501,7 @@ fn put_label(alloc: Global, walk: &mut Walk, label: u32, plan: &Plan) -> Result<
     put_point(alloc, &mut walk.stored, label, &plan.stored)?;
     put_point(alloc, &mut walk.crossing, label, &plan.crossing)?;
     put_point(alloc, &mut walk.joining, label, &plan.joining)?;
+    put_point(alloc, &mut walk.read, label, &plan.read)?;
     put_point(alloc, &mut walk.ahead, label, &plan.ahead)?;
     let mut wishes = Vec::new(alloc);
     wishes.extend_from_slice(&plan.wishes)?;
@@ -495,6 +539,7 @@ fn no_plan(alloc: Global) -> Plan {
         stored: Vec::new(alloc),
         crossing: Vec::new(alloc),
         joining: Vec::new(alloc),
+        read: Vec::new(alloc),
         wishes: Vec::new(alloc),
         ahead: Vec::new(alloc),
     }
@@ -513,6 +558,7 @@ pub fn plans_of(alloc: Global, code: &[Statement], care: &Care) -> Result<Option
         stored: Vec::new(alloc),
         crossing: Vec::new(alloc),
         joining: Vec::new(alloc),
+        read: Vec::new(alloc),
     };
     let mut left = code.len();
     while left > 0 {

@@ -3,7 +3,7 @@
 use crate::keeping::may_spoil;
 use crate::liveness::{Point, is_one_of};
 use crate::places::listing;
-use crate::plans::Wish;
+use crate::plans::{Plan, Wish};
 use kk_base::NoMemory;
 use rv_isa::{Action, Listed, Operand, Place, Register};
 use std::alloc::Global;
@@ -124,15 +124,31 @@ pub fn argument_register(index: usize) -> Option<Register> {
     }
 }
 
-/// The register that the value wishes for, if that is to be had.
+// Whether the register has a copy of one of these values, and no other register has the value.
+fn is_only_copy(state: &[Listed], values: &[u32], register: Register) -> bool {
+    for listed in state {
+        if is_in_slot(*listed)
+            && is_copied_in(*listed, register)
+            && is_one_of(listed.value, values)
+        {
+            return true;
+        }
+    }
+    false
+}
+
+/// The register that the value wishes for, if that is to be had, and has no copy that would have to be loaded again.
 pub fn wished_register(
     state: &[Listed],
     keep: &[u32],
-    wishes: &[Wish],
+    plan: &Plan,
     value: u32,
 ) -> Option<Register> {
-    for wish in wishes {
-        if wish.value == value && is_to_be_had(state, keep, wish.register) {
+    for wish in &plan.wishes {
+        if wish.value == value
+            && is_to_be_had(state, keep, wish.register)
+            && !is_only_copy(state, &plan.read, wish.register)
+        {
             return Some(wish.register);
         }
     }
