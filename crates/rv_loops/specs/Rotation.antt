@@ -1,12 +1,8 @@
 -- Loop rotation. A function that calls itself last is a loop, and where it begins with a test, each turn takes a jump to the
--- test and the test. In the rotated form the test stands again where the function calls itself, with a jump behind it. Where the loop
--- goes on, the test leads to its body, and else the jump leads out.
---
--- Some tests lead out of the loop, whose body stands behind them. Such a test stands again turned round: it leads right behind the
--- first one, and the jump to where that one leads. Other tests lead to the body, and the way out stands behind them. They stand again
--- as they are, and the jump leads right behind the first one.
+-- test and the test. In the rotated form the test stands again where the function calls itself, turned round: where the loop
+-- goes on it leads right behind the first one, and else a jump leads to where that one leads.
 use Rattle.std.specs.Prelude.{◌≡◌, ◌≢◌, ◌==◌, ◌≤◌, ◌⊎◌, ℕ, suc, List, [], ◌∷◌, ◌++◌, None}
-use Rattle.std.specs.Prelude.{Some, Bool, true, false, cond, not, option_map, ◌&&◌, ◌||◌}
+use Rattle.std.specs.Prelude.{Some, Bool, true, false, cond, not, option_map}
 use Rattle.std.specs.Prelude.{length}
 use Rattle.std.specs.List.{AllByRecursion}
 use Rattle.rv_isa.specs.declared.asm.Action.{Action}
@@ -28,8 +24,7 @@ HasOpposites m =
     (condition : Condition) (words : List ℕ) → m.holds (opposite condition) words ≡ option_map not (m.holds condition words)
 
 -- A loop: the number of its function, and the code of that. The test is a branch behind lines that go straight on, which does not
--- compare a single word with zero, and leads to the label `exit`; `again` is a label that stands nowhere in that code. `stays` tells
--- whether the test leads to the body of the loop.
+-- compare a single word with zero, and leads to the label `exit`; `again` is a label that stands nowhere in that code.
 pub record Loop : Type 0 where
   pub function : ℕ
   pub before : List PlacedLine
@@ -39,7 +34,6 @@ pub record Loop : Type 0 where
   pub args : List Operand
   pub behind : List PlacedLine
   pub again : ℕ
-  pub stays : Bool
 
 abbrev pub is_straight_action : Action → Bool
 is_straight_action (Compute operation) = not (is_made (Compute operation))
@@ -77,16 +71,14 @@ test loop = does loop.alive (Branch loop.condition loop.exit) loop.args None
 abbrev pub mark : Loop → PlacedLine
 mark loop = does [] (Label loop.again) [] None
 
--- the test as it stands again, as it is or turned round, and the jump behind it
+-- the test turned round, and the jump behind it
 abbrev pub goes_on : Loop → PlacedLine
-goes_on loop =
-    does loop.alive (Branch (cond loop.stays loop.condition (opposite loop.condition)) (cond loop.stays loop.exit loop.again)) loop.args
-    None
+goes_on loop = does loop.alive (Branch (opposite loop.condition) loop.again) loop.args None
 
 abbrev pub leaves : Loop → PlacedLine
-leaves loop = does [] (Jump (cond loop.stays loop.again loop.exit)) [] None
+leaves loop = does [] (Jump loop.exit) [] None
 
--- each tail call of the function itself becomes the lines before the test, the test again, and the jump
+-- each tail call of the function itself becomes the lines before the test, and the test turned round
 abbrev pub rotated_line : Loop → PlacedLine → List PlacedLine
 rotated_line loop line = cond (is_call_of loop.function line) (loop.before ++ (goes_on loop ∷ leaves loop ∷ [])) (line ∷ [])
 
@@ -100,11 +92,6 @@ code_of loop = loop.before ++ (test loop ∷ loop.behind)
 
 abbrev pub rotated_code : Loop → List PlacedLine
 rotated_code loop = loop.before ++ (test loop ∷ mark loop ∷ rotated_lines loop loop.behind)
-
--- whether a label stands in code before the first tail call of the function f
-abbrev pub stands_first : ℕ → ℕ → List PlacedLine → Bool
-stands_first f l [] = false
-stands_first f l (line ∷ lines) = not (is_call_of f line) && (is_label_line l line || stands_first f l lines)
 
 -- the most lines before a test
 abbrev pub most_before : ℕ
@@ -120,7 +107,6 @@ pub record IsRotated (f : ℕ) (old new : List PlacedLine) : Type 0 where
   pub few : length loop.before ≤ most_before
   pub compares : length loop.args ≢ 1
   pub fresh : found (is_label_line loop.again) old ≡ None
-  pub leads : loop.stays ≡ stands_first loop.function loop.exit old
 
 -- each function stays as it is, or is rotated; the first one has the number f
 abbrev pub AreRotated : ℕ → List PlacedLines → List PlacedLines → Type 0

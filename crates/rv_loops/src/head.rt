@@ -1,11 +1,11 @@
 // The head of a loop: its lines up to the test.
 
-ghost use Rattle.std.specs.Prelude.{◌≡◌, [], false, cond, None, IfOk, IfSome, map, ◌++◌, OnOk};
+ghost use Rattle.std.specs.Prelude.{◌≡◌, [], false, None, IfOk, IfSome, map, ◌++◌, OnOk};
 ghost use Rattle.rv_isa.specs.declared.asm.Action.TheVariants.{Branch};
 ghost use Rattle.rv_isa.specs.Frames.{found};
 ghost use Rattle.rv_isa.specs.PlacedCode.{does, placed_line_of};
 ghost use Rattle.rv_isa.specs.PlacedMachine.{is_label_line};
-ghost use Rattle.rv_loops.specs.Rotation.{is_straight_action, is_straight, calls, is_call_of, test, goes_on, stands_first};
+ghost use Rattle.rv_loops.specs.Rotation.{is_straight_action, is_straight, calls, is_call_of, test, goes_on};
 ghost use Rattle.rv_loops.specs.Heads.{loop_of, Begins};
 
 use kk_base::NoMemory;
@@ -31,8 +31,6 @@ pub struct Head {
     /// The label to which the test leads.
     pub exit: u32,
     pub args: Vec<Operand>,
-    /// Whether the test leads to the body of the loop.
-    pub stays: bool,
 }
 
 /// A copy may be no instruction, and so may 0 and 1; a label is none.
@@ -92,33 +90,6 @@ pub fn has_label(label: u32, code: &[Item]) -> bool
     false
 }
 
-fn is_label(label: u32, item: &Item) -> bool
-    ensures { result ≡ is_label_line label (placed_line_of item.now) }
-{
-    match item {
-        Item::Does {
-            action: Action::Label(other),
-            ..
-        } => *other == label,
-        _ => false,
-    }
-}
-
-/// Whether a label stands in code before the first tail call of a function.
-fn stands_first(function: usize, label: u32, code: &[Item]) -> bool
-    ensures { result ≡ stands_first function label (map placed_line_of code.now) }
-{
-    for item in code {
-        if is_call_of(function, item) {
-            return false;
-        }
-        if is_label(label, item) {
-            return true;
-        }
-    }
-    false
-}
-
 impl Head {
     /// The head of a function's code, if that has one. A branch on one word is no test of a loop: so the tests of tokens stay.
     pub fn of(alloc: Global, function: usize, code: &[Item]) -> Result<Option<Head>, NoMemory>
@@ -143,7 +114,6 @@ impl Head {
                     condition: *condition,
                     exit: *exit,
                     args: copy_of_operands(alloc, args)?,
-                    stays: stands_first(function, *exit, code),
                 }));
             }
             if !is_straight(item) || before.len() == MOST_BEFORE {
@@ -174,21 +144,11 @@ impl Head {
         self.branch(alloc, self.condition, self.exit)
     }
 
-    /// The test as it stands again: as it is, or turned round.
-    pub fn test_again(&self, alloc: Global) -> Result<Item, NoMemory>
+    /// The test turned round.
+    pub fn turned_test(&self, alloc: Global) -> Result<Item, NoMemory>
         ensures { IfOk result (λ item. placed_line_of item ≡ goes_on (loop_of self.now [])) }
     {
-        if self.stays {
-            return self.test(alloc);
-        }
         self.branch(alloc, self.condition.opposite(), AGAIN)
-    }
-
-    /// Where the jump behind that leads: out of the loop.
-    pub fn way_out(&self) -> u32
-        ensures { result ≡ cond self.now.stays AGAIN self.now.exit }
-    {
-        if self.stays { AGAIN } else { self.exit }
     }
 }
 
