@@ -113,10 +113,16 @@ module _ (f : ℕ) (old new : List PlacedLine) (is : IsRotated f old new) where
   again_there : IsSome (found (is_label_line is.loop.again) new)
   again_there = is_some (found (is_label_line is.loop.again) new) _ (found_again f old new is)
 
+  -- where the test leads as it stands again
+  led_there : (stays : Bool) → IsSome (found (is_label_line is.loop.exit) new)
+      → IsSome (found (is_label_line (cond stays is.loop.exit is.loop.again)) new)
+  led_there true there = there
+  led_there false there = again_there
+
   plain_kept : ArePlain old old → ArePlain new new
   plain_kept plain =
       each_plain new new
-      (rotated_has (IsPlain new) f old new is (λ has. (tt, again_there)) (tt, tt) (tt, tt) (lines_plain old plain))
+      (rotated_has (IsPlain new) f old new is (λ has. (tt, led_there is.loop.stays has.1)) (tt, tt) (tt, tt) (lines_plain old plain))
 
 -- rotated functions are plain where the functions are
 pub all_plain : (f : ℕ) (q q' : List PlacedLines) → AreRotated f q q' → AllPlain q → AllPlain q'

@@ -38,4 +38,5 @@ rotates head number count code new begins count_is fresh new_is =
       few = begins.few;
       compares = begins.compares;
       fresh = fresh;
+      leads = begins.leads;
     }

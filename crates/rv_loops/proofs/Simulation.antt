@@ -22,7 +22,7 @@ use Rattle.rv_isa.specs.PlacedMachine.{placed_jumps}
 use Rattle.rv_isa.specs.PlacedMachine.{placed_acts, placed_line, placed_next, placed_line_weight, placed_weight, placed_machine}
 use Rattle.rv_isa.specs.Primitives.{Primitives, go, ended, stuck, or_stuck, end_of}
 use Rattle.rv_loops.specs.Rotation.{HasOpposites, Loop, AreStraight, calls, is_call_of, test, mark, goes_on, leaves}
-use Rattle.rv_loops.specs.Rotation.{rotated_lines, IsRotated, AreRotated}
+use Rattle.rv_loops.specs.Rotation.{rotated_lines, returns_straight, IsRotated, AreRotated}
 use Rattle.rv_loops.specs.Relation.{Spot, Knows, IsLike, IsAtSame, IsInTurn, AllWait, FramesStand, StandsFor, NeverStuck}
 use Rattle.rv_loops.specs.Relation.{Related, IsNotStuck}
 use Rattle.rv_loops.proofs.MachineKnowledge.{like_on, same_some, empty_knows, words_known, passed_known}
@@ -144,10 +144,9 @@ module _ {H E W : Type 0} (m : Primitives H E W) (opposes : HasOpposites m) (dep
         (line_goes m depth q q' all f g fs gs known known' shared rest rest' line like wait more place) (λ stands. inl
         (omega arith, stands))
 
-    -- ---- the test turned round
+    -- ---- the test again
 
-    module _ (is : IsRotated f.function f.whole g.whole) (rest : List PlacedLine) (at : f.code ≡ test is.loop ∷ is.loop.behind)
-        (at' : g.code ≡ goes_on is.loop ∷ leaves is.loop ∷ rest) where
+    module _ (is : IsRotated f.function f.whole g.whole) (rest : List PlacedLine) (at : f.code ≡ test is.loop ∷ is.loop.behind) where
       abbrev loop : Loop
       loop = is.loop
 
@@ -158,9 +157,6 @@ module _ {H E W : Type 0} (m : Primitives H E W) (opposes : HasOpposites m) (dep
       abbrev on : Frame PlacedLine
       on = record f { code = loop.behind }
 
-      abbrev on' : Frame PlacedLine
-      on' = record g { code = leaves loop ∷ rest }
-
       upper : (taken : Bool) → m.holds loop.condition tested.words ≡ Some taken
           → placed_next m depth q (go s) ≡ cond taken (placed_jumps loop.exit on fs known shared) (placed_goes on fs known shared)
       upper taken is_taken =
@@ -170,76 +166,119 @@ module _ {H E W : Type 0} (m : Primitives H E W) (opposes : HasOpposites m) (dep
           ∙ ap (λ (o : Option Bool). or_stuck o (λ b. cond b (placed_jumps loop.exit on fs known shared)
           (placed_goes on fs known shared))) is_taken
 
-      lower : (taken : Bool) → m.holds loop.condition tested.words ≡ Some taken
-          → placed_next m depth q' (go t) ≡ cond (not taken) (placed_jumps loop.again on' gs known' shared')
-          (placed_goes on' gs known' shared')
-      lower taken is_taken =
-          let words_are = words_known known known' f.cells g.cells more like.cells loop.args tested.words tested.words_are in
-          let fit : conforms (Branch (opposite loop.condition) loop.again) loop.args None ≡ true
-          = ap (λ (b : Bool). b && true) (takes_alike (opposite loop.condition) loop.condition loop.again loop.exit 0 loop.args)
-          ∙ tested.fit in
-          ap (placed_line m depth q' g gs known' shared') at'
-          ∙ does_so q' g gs known' shared' (leaves loop ∷ rest) loop.alive (Branch
-          (opposite loop.condition) loop.again) loop.args None tested.words fit words_are
-          ∙ ap (λ (o : Option Bool). or_stuck o (λ b. cond b (placed_jumps loop.again on' gs known' shared')
-          (placed_goes on' gs known' shared')))
-          (opposes loop.condition tested.words ∙ ap (option_map not) is_taken)
-
       weight_s : placed_weight {W = W} m (go s) ≡ 3
       weight_s = ap (placed_line_weight m (f ∷ fs) known shared f) at
 
-      weight_t : placed_weight {W = W} m (go t) ≡ 3
-      weight_t = ap (placed_line_weight m (g ∷ gs) known' shared' g) at'
+      -- the code goes on somewhere, and a label of the rotated code leads there
+      record Leads (label : ℕ) : Type 0 where
+        code : List PlacedLine
+        code' : List PlacedLine
+        next : placed_next m depth q (go s) ≡ placed_goes (record on { code = code }) fs known shared
+        there : found (is_label_line label) g.whole ≡ Some code'
+        place : IsAtSame f.function f.whole g.whole code code'
 
-      -- the loop goes on
-      stays_in : (credit idle : ℕ) → m.holds loop.condition tested.words ≡ Some false → Step m depth q q' credit idle s t
-      stays_in credit idle not_taken =
-          let here : placed_next m depth q (go s) ≡ placed_goes on fs known shared = upper false not_taken in
-          let marked : Frame PlacedLine = record g { code = mark loop ∷ rotated_lines loop loop.behind } in
-          let there : placed_next m depth q' (go t) ≡ placed_goes marked gs known' shared'
-          = lower false not_taken
-          ∙ ap (λ (o : Option (List PlacedLine)). or_stuck o (λ code. placed_goes (record g { code = code }) gs known' shared'))
-          (found_again f.function f.whole g.whole is) in
-          let marked_like : IsLike q q' on marked
-          = like_on q q' f g loop.behind marked.code f.into g.into like in
-          let stands : StandsFor {W = W} q q' IsAtSame (placed_goes on fs known shared) (placed_goes marked gs known' shared')
-          = ((marked_like, (inr (is, inr (inl refl)), wait)), (more, same)) in
-          one_step m depth q q' IsAtSame credit idle 1 s t same (omega arith) (weight_t ∙ sym weight_s) never
-          (subst (λ (u : PlacedTurn H W). StandsFor q q' IsAtSame (placed_next m depth q (go s)) u) (sym there)
-          (subst (λ (u : PlacedTurn H W). StandsFor q q' IsAtSame u (placed_goes marked gs known' shared')) (sym here) stands))
-          (λ stands. inl (omega arith, stands))
-
-      -- and ends
-      goes_out : (credit idle : ℕ) → 2 ≤ credit → m.holds loop.condition tested.words ≡ Some true
-          → Step m depth q q' credit idle s t
-      goes_out credit idle saved taken =
+      leads : (taken : Bool) → m.holds loop.condition tested.words ≡ Some taken → Leads (cond taken loop.exit loop.again)
+      leads false is_taken = record {
+        code = loop.behind;
+        code' = mark loop ∷ rotated_lines loop loop.behind;
+        next = upper false is_taken;
+        there = found_again f.function f.whole g.whole is;
+        place = inr (is, inr (inl refl));
+      }
+      leads true is_taken =
           let jumps = or_some (found (is_label_line loop.exit) f.whole) (λ code. placed_goes
           (record on { code = code }) fs known shared)
-          (λ stops. never 1 (upper true taken ∙ stops)) in
-          let there = found_both f.function loop.exit f.whole g.whole [] [] jumps.0 (inr (is, inl refl)) jumps.1.0 in
-          let s' : PlacedState H = record { frames = record on { code = jumps.0 } ∷ fs; registers = known; shared = shared } in
-          let t' : PlacedState H = record { frames = on' ∷ gs; registers = known'; shared = shared' } in
-          let t'' : PlacedState H = record { frames = record on' { code = there.0 } ∷ gs; registers = known'; shared = shared' } in
-          let first : placed_next m depth q (go s) ≡ go s'
-          = upper true taken ∙ ap (λ (o : Option (List PlacedLine)). or_stuck o (λ code. placed_goes
-          (record on { code = code }) fs known shared)) jumps.1.0 in
-          let last : placed_next m depth q' (go t') ≡ go t''
-          = ap (λ (o : Option (List PlacedLine)). or_stuck o (λ code. placed_goes
-          (record on' { code = code }) gs known' shared')) there.1 in
-          let like' : IsLike q q' (record on { code = jumps.0 }) (record on' { code = there.0 })
-          = like_on q q' f g jumps.0 there.0 f.into g.into like in
-          two_steps m depth q q' credit idle 2 s s' t t' t'' first (lower true taken) last refl refl refl saved
-          (omega (arith, weight_s, weight_t)) never ((like', (there.2, wait)), (more, same))
+          (λ stops. never 1 (upper true is_taken ∙ stops)) in
+          let both = found_both f.function loop.exit f.whole g.whole [] [] jumps.0 (inr (is, inl refl)) jumps.1.0 in
+          record {
+            code = jumps.0;
+            code' = both.0;
+            next = upper true is_taken ∙ ap (λ (o : Option (List PlacedLine)). or_stuck o (λ code. placed_goes
+                (record on { code = code }) fs known shared)) jumps.1.0;
+            there = both.1;
+            place = both.2;
+          }
 
-      turns : (credit idle : ℕ) → 2 ≤ credit → Step m depth q q' credit idle s t
-      turns credit idle saved =
+      -- a branch on the same words, and a jump
+      module _ (condition : Condition) (l l' : ℕ)
+          (at' : g.code ≡ does loop.alive (Branch condition l) loop.args None ∷ does [] (Jump l') [] None ∷ rest) where
+        abbrev on' : Frame PlacedLine
+        on' = record g { code = does [] (Jump l') [] None ∷ rest }
+
+        lower : (taken : Bool) → m.holds condition tested.words ≡ Some taken
+            → placed_next m depth q' (go t) ≡ cond taken (placed_jumps l on' gs known' shared') (placed_goes on' gs known' shared')
+        lower taken is_taken =
+            let words_are = words_known known known' f.cells g.cells more like.cells loop.args tested.words tested.words_are in
+            let fit : conforms (Branch condition l) loop.args None ≡ true
+            = ap (λ (b : Bool). b && true) (takes_alike condition loop.condition l loop.exit 0 loop.args) ∙ tested.fit in
+            ap (placed_line m depth q' g gs known' shared') at'
+            ∙ does_so q' g gs known' shared' on'.code loop.alive (Branch condition l) loop.args None tested.words fit words_are
+            ∙ ap (λ (o : Option Bool). or_stuck o (λ b. cond b (placed_jumps l on' gs known' shared')
+            (placed_goes on' gs known' shared'))) is_taken
+
+        weight_t : placed_weight {W = W} m (go t) ≡ 3
+        weight_t = ap (placed_line_weight m (g ∷ gs) known' shared' g) at'
+
+        stands : (label : ℕ) (way : Leads label) → StandsFor {W = W} q q' IsAtSame
+            (placed_goes (record on { code = way.code }) fs known shared)
+            (placed_goes (record on' { code = way.code' }) gs known' shared')
+        stands label way = ((like_on q q' f g way.code way.code' f.into g.into like, (way.place, wait)), (more, same))
+
+        -- the branch leads there
+        branches : (credit idle : ℕ) → m.holds condition tested.words ≡ Some true → Leads l → Step m depth q q' credit idle s t
+        branches credit idle taken way =
+            let there : placed_next m depth q' (go t) ≡ placed_goes (record on' { code = way.code' }) gs known' shared'
+            = lower true taken ∙ ap (λ (o : Option (List PlacedLine)). or_stuck o (λ code. placed_goes
+            (record on' { code = code }) gs known' shared')) way.there in
+            one_step m depth q q' IsAtSame credit idle 1 s t same (omega arith) (weight_t ∙ sym weight_s) never
+            (subst (λ (u : PlacedTurn H W). StandsFor q q' IsAtSame (placed_next m depth q (go s)) u) (sym there)
+            (subst (λ (u : PlacedTurn H W). StandsFor q q' IsAtSame u (placed_goes (record on' { code = way.code' }) gs known' shared'))
+            (sym way.next) (stands l way)))
+            (λ stands. inl (omega arith, stands))
+
+        -- the jump leads there
+        jumps : (credit idle : ℕ) → 2 ≤ credit → m.holds condition tested.words ≡ Some false → Leads l'
+            → Step m depth q q' credit idle s t
+        jumps credit idle saved not_taken way =
+            let s' : PlacedState H = record { frames = record on { code = way.code } ∷ fs; registers = known; shared = shared } in
+            let t' : PlacedState H = record { frames = on' ∷ gs; registers = known'; shared = shared' } in
+            let t'' : PlacedState H = record { frames = record on' { code = way.code' } ∷ gs; registers = known'; shared = shared' } in
+            let last : placed_next m depth q' (go t') ≡ go t''
+            = ap (λ (o : Option (List PlacedLine)). or_stuck o (λ code. placed_goes
+            (record on' { code = code }) gs known' shared')) way.there in
+            two_steps m depth q q' credit idle 2 s s' t t' t'' way.next (lower false not_taken) last refl refl refl saved
+            (omega (arith, weight_s, weight_t)) never (stands l' way)
+
+      turns : (credit idle : ℕ) → g.code ≡ goes_on loop ∷ leaves loop ∷ rest → 2 ≤ credit → Step m depth q q' credit idle s t
+      turns credit idle at' saved =
           let taken = or_some (m.holds loop.condition tested.words) (λ b. cond b (placed_jumps loop.exit on fs known shared)
           (placed_goes on fs known shared)) tested.good in
-          by taken.0 taken.1.0
+          by loop.stays taken.0 refl taken.1.0
         where
-          by : (taken : Bool) → m.holds loop.condition tested.words ≡ Some taken → Step m depth q q' credit idle s t
-          by true is_taken = goes_out credit idle saved is_taken
-          by false is_taken = stays_in credit idle is_taken
+          -- by the order that the loop has
+          ordered : (stays : Bool) → loop.stays ≡ stays
+              → g.code ≡ does loop.alive (Branch (cond stays loop.condition (opposite loop.condition)) (cond stays loop.exit loop.again))
+              loop.args None ∷ does [] (Jump (cond stays loop.again loop.exit)) [] None ∷ rest
+          ordered stays stays_is =
+              at' ∙ ap (λ (b : Bool). does loop.alive (Branch (cond b loop.condition (opposite loop.condition))
+              (cond b loop.exit loop.again)) loop.args None ∷ does [] (Jump (cond b loop.again loop.exit)) [] None ∷ rest) stays_is
+
+          turned : (taken : Bool) → m.holds loop.condition tested.words ≡ Some taken
+              → m.holds (opposite loop.condition) tested.words ≡ Some (not taken)
+          turned taken is_taken = opposes loop.condition tested.words ∙ ap (option_map not) is_taken
+
+          by : (stays taken : Bool) → loop.stays ≡ stays → m.holds loop.condition tested.words ≡ Some taken
+              → Step m depth q q' credit idle s t
+          by true true stays_is is_taken =
+              branches loop.condition loop.exit loop.again (ordered true stays_is) credit idle is_taken (leads true is_taken)
+          by true false stays_is is_taken =
+              jumps loop.condition loop.exit loop.again (ordered true stays_is) credit idle saved is_taken (leads false is_taken)
+          by false true stays_is is_taken =
+              jumps (opposite loop.condition) loop.again loop.exit (ordered false stays_is) credit idle saved (turned true is_taken)
+              (leads true is_taken)
+          by false false stays_is is_taken =
+              branches (opposite loop.condition) loop.again loop.exit (ordered false stays_is) credit idle (turned false is_taken)
+              (leads false is_taken)
 
     -- ---- a turn begins
 
@@ -273,6 +312,7 @@ module _ {H E W : Type 0} (m : Primitives H E W) (opposes : HasOpposites m) (dep
           few = is.few;
           compares = is.compares;
           fresh = ap (found (is_label_line is.loop.again)) code ∙ is.fresh;
+          leads = is.leads ∙ sym (ap (returns_straight is.loop.exit) code);
         } in
         let entered : IsLike q q' (placed_entered n c) g = record {
           there = (c, (callee.1.0, refl));
@@ -313,7 +353,7 @@ module _ {H E W : Type 0} (m : Primitives H E W) (opposes : HasOpposites m) (dep
         → f.code ≡ before ++ (test is.loop ∷ is.loop.behind) → g.code ≡ before ++ (goes_on is.loop ∷ leaves is.loop ∷ rest)
         → 2 ≤ credit
         → Step m depth q q' credit idle s t
-    in_turn credit idle is rest [] straight at at' saved = turns is rest at at' credit idle saved
+    in_turn credit idle is rest [] straight at at' saved = turns is rest at credit idle at' saved
     in_turn credit idle is rest (line ∷ before) straight at at' saved =
         let old : List PlacedLine = before ++ (test is.loop ∷ is.loop.behind) in
         let new : List PlacedLine = before ++ (goes_on is.loop ∷ leaves is.loop ∷ rest) in

@@ -3,7 +3,7 @@ use Rattle.std.specs.Prelude.{◌≡◌, ◌≢◌, ◌≤◌, ℕ, List, length
 use Rattle.rv_isa.specs.PlacedCode.{PlacedLine, placed_line_of}
 use Rattle.rv_loops.specs.declared.head.Head.{Head}
 use Rattle.rv_loops.specs.declared.head.TheConstants.{AGAIN}
-use Rattle.rv_loops.specs.Rotation.{Loop, AreStraight, most_before, code_of}
+use Rattle.rv_loops.specs.Rotation.{Loop, AreStraight, returns_straight, most_before, code_of}
 
 -- the loop of a head, behind which these lines stand
 abbrev pub loop_of : Head → List PlacedLine → Loop
@@ -16,6 +16,7 @@ loop_of head behind = record {
   args = head.args.items;
   behind = behind;
   again = AGAIN;
+  stays = head.stays;
 }
 
 -- code begins with a head
@@ -26,3 +27,4 @@ pub record Begins (head : Head) (function : ℕ) (code : List PlacedLine) : Type
   pub straight : AreStraight (map placed_line_of head.before.items)
   pub few : length (map placed_line_of head.before.items) ≤ most_before
   pub compares : length head.args.items ≢ 1
+  pub leads : head.stays ≡ returns_straight head.exit code

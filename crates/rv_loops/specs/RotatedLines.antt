@@ -12,7 +12,7 @@ head_length (line ∷ lines) = cond (is_straight line) (suc (head_length lines))
 abbrev pub width : ℕ → ℕ → PlacedLine → ℕ
 width f before line = cond (is_call_of f line) (before + 2) 1
 
--- which one of these is it: of a call of the function itself the test turned round, behind the lines that stand before that
+-- which one of these is it: of a call of the function itself the test, behind the lines that stand before that
 abbrev pub own_in : ℕ → ℕ → PlacedLine → ℕ
 own_in f before line = cond (is_call_of f line) before 0
 

@@ -1,12 +1,15 @@
 -- Loop rotation. A function that calls itself last is a loop, and where it begins with a test, each turn takes a jump to the
--- test and the test. In the rotated form the test stands again where the function calls itself, turned round: where the loop
--- goes on it leads right behind the first one, and else a jump leads to where that one leads.
+-- test and the test. In the rotated form the test stands again where the function calls itself, with a jump behind it for the other way.
+--
+-- Behind some tests the code goes straight on to a return. Such a test leads to the body of the loop: it stands again as it is, and the
+-- jump leads right behind the first one. Any other test stands again turned round: it leads right behind the first one, and the jump to
+-- where that one leads.
 use Rattle.std.specs.Prelude.{◌≡◌, ◌≢◌, ◌==◌, ◌≤◌, ◌⊎◌, ℕ, suc, List, [], ◌∷◌, ◌++◌, None}
-use Rattle.std.specs.Prelude.{Some, Bool, true, false, cond, not, option_map}
+use Rattle.std.specs.Prelude.{Some, Bool, true, false, cond, not, option_map, ◌&&◌, ◌||◌}
 use Rattle.std.specs.Prelude.{length}
 use Rattle.std.specs.List.{AllByRecursion}
 use Rattle.rv_isa.specs.declared.asm.Action.{Action}
-use Rattle.rv_isa.specs.declared.asm.Action.TheVariants.{Compute, Label, Jump, Branch, TailCall}
+use Rattle.rv_isa.specs.declared.asm.Action.TheVariants.{Compute, Label, Jump, Branch, TailCall, Return}
 use Rattle.rv_isa.specs.declared.asm.Condition.{Condition}
 use Rattle.rv_isa.specs.declared.asm.Operation.{Operation}
 use Rattle.rv_isa.specs.declared.placed.Operand.{Operand}
@@ -24,7 +27,8 @@ HasOpposites m =
     (condition : Condition) (words : List ℕ) → m.holds (opposite condition) words ≡ option_map not (m.holds condition words)
 
 -- A loop: the number of its function, and the code of that. The test is a branch behind lines that go straight on, which does not
--- compare a single word with zero, and leads to the label `exit`; `again` is a label that stands nowhere in that code.
+-- compare a single word with zero, and leads to the label `exit`; `again` is a label that stands nowhere in that code. `stays` tells
+-- whether the test stands again as it is.
 pub record Loop : Type 0 where
   pub function : ℕ
   pub before : List PlacedLine
@@ -34,6 +38,7 @@ pub record Loop : Type 0 where
   pub args : List Operand
   pub behind : List PlacedLine
   pub again : ℕ
+  pub stays : Bool
 
 abbrev pub is_straight_action : Action → Bool
 is_straight_action (Compute operation) = not (is_made (Compute operation))
@@ -71,14 +76,16 @@ test loop = does loop.alive (Branch loop.condition loop.exit) loop.args None
 abbrev pub mark : Loop → PlacedLine
 mark loop = does [] (Label loop.again) [] None
 
--- the test turned round, and the jump behind it
+-- the test as it stands again, as it is or turned round, and the jump behind it
 abbrev pub goes_on : Loop → PlacedLine
-goes_on loop = does loop.alive (Branch (opposite loop.condition) loop.again) loop.args None
+goes_on loop =
+    does loop.alive (Branch (cond loop.stays loop.condition (opposite loop.condition)) (cond loop.stays loop.exit loop.again)) loop.args
+    None
 
 abbrev pub leaves : Loop → PlacedLine
-leaves loop = does [] (Jump loop.exit) [] None
+leaves loop = does [] (Jump (cond loop.stays loop.again loop.exit)) [] None
 
--- each tail call of the function itself becomes the lines before the test, and the test turned round
+-- each tail call of the function itself becomes the lines before the test, the test again, and the jump
 abbrev pub rotated_line : Loop → PlacedLine → List PlacedLine
 rotated_line loop line = cond (is_call_of loop.function line) (loop.before ++ (goes_on loop ∷ leaves loop ∷ [])) (line ∷ [])
 
@@ -92,6 +99,31 @@ code_of loop = loop.before ++ (test loop ∷ loop.behind)
 
 abbrev pub rotated_code : Loop → List PlacedLine
 rotated_code loop = loop.before ++ (test loop ∷ mark loop ∷ rotated_lines loop loop.behind)
+
+abbrev pub is_return : Action → Bool
+is_return Return = true
+is_return _ = false
+
+-- whether an action may lead elsewhere than to the next line and to the label l; that label is where the other way begins
+abbrev pub turns_off : ℕ → Action → Bool
+turns_off l (Label m) = m == l
+turns_off l (Jump m) = true
+turns_off l (Branch condition m) = not (m == l)
+turns_off l (TailCall g) = true
+turns_off l _ = false
+
+abbrev pub is_return_line : PlacedLine → Bool
+is_return_line (does alive action args into) = is_return action
+is_return_line (moves alive value way) = false
+
+abbrev pub is_turn : ℕ → PlacedLine → Bool
+is_turn l (does alive action args into) = turns_off l action
+is_turn l (moves alive value way) = false
+
+-- whether code goes straight on to a return, but for branches to the label l, which stands behind that return
+abbrev pub returns_straight : ℕ → List PlacedLine → Bool
+returns_straight l [] = false
+returns_straight l (line ∷ lines) = is_return_line line || (not (is_turn l line) && returns_straight l lines)
 
 -- the most lines before a test
 abbrev pub most_before : ℕ
@@ -107,6 +139,7 @@ pub record IsRotated (f : ℕ) (old new : List PlacedLine) : Type 0 where
   pub few : length loop.before ≤ most_before
   pub compares : length loop.args ≢ 1
   pub fresh : found (is_label_line loop.again) old ≡ None
+  pub leads : loop.stays ≡ returns_straight loop.exit old
 
 -- each function stays as it is, or is rotated; the first one has the number f
 abbrev pub AreRotated : ℕ → List PlacedLines → List PlacedLines → Type 0

@@ -1,11 +1,12 @@
 // The head of a loop: its lines up to the test.
 
-ghost use Rattle.std.specs.Prelude.{◌≡◌, [], false, None, IfOk, IfSome, map, ◌++◌, OnOk};
+ghost use Rattle.std.specs.Prelude.{◌≡◌, [], false, cond, None, IfOk, IfSome, map, ◌++◌, OnOk};
 ghost use Rattle.rv_isa.specs.declared.asm.Action.TheVariants.{Branch};
 ghost use Rattle.rv_isa.specs.Frames.{found};
 ghost use Rattle.rv_isa.specs.PlacedCode.{does, placed_line_of};
 ghost use Rattle.rv_isa.specs.PlacedMachine.{is_label_line};
 ghost use Rattle.rv_loops.specs.Rotation.{is_straight_action, is_straight, calls, is_call_of, test, goes_on};
+ghost use Rattle.rv_loops.specs.Rotation.{is_return, turns_off, is_return_line, is_turn, returns_straight};
 ghost use Rattle.rv_loops.specs.Heads.{loop_of, Begins};
 
 use kk_base::NoMemory;
@@ -31,6 +32,8 @@ pub struct Head {
     /// The label to which the test leads.
     pub exit: u32,
     pub args: Vec<Operand>,
+    /// Whether the test stands again as it is: behind it the code goes straight on to a return.
+    pub stays: bool,
 }
 
 /// A copy may be no instruction, and so may 0 and 1; a label is none.
@@ -90,6 +93,57 @@ pub fn has_label(label: u32, code: &[Item]) -> bool
     false
 }
 
+fn is_return(action: Action) -> bool
+    ensures { result ≡ is_return action }
+{
+    matches!(action, Action::Return)
+}
+
+/// Whether an action may lead elsewhere than to the next line and to a label, where the other way begins.
+fn turns_off(label: u32, action: Action) -> bool
+    ensures { result ≡ turns_off label action }
+{
+    match action {
+        Action::Label(other) => other == label,
+        Action::Branch(_, other) => other != label,
+        Action::Jump(_) | Action::TailCall(_) => true,
+        _ => false,
+    }
+}
+
+fn is_return_line(item: &Item) -> bool
+    ensures { result ≡ is_return_line (placed_line_of item.now) }
+{
+    match item {
+        Item::Does { action, .. } => is_return(*action),
+        Item::Moves { .. } => false,
+    }
+}
+
+fn is_turn(label: u32, item: &Item) -> bool
+    ensures { result ≡ is_turn label (placed_line_of item.now) }
+{
+    match item {
+        Item::Does { action, .. } => turns_off(label, *action),
+        Item::Moves { .. } => false,
+    }
+}
+
+/// Whether code goes straight on to a return, but for branches to a label, which stands behind that return.
+fn returns_straight(label: u32, code: &[Item]) -> bool
+    ensures { result ≡ returns_straight label (map placed_line_of code.now) }
+{
+    for item in code {
+        if is_return_line(item) {
+            return true;
+        }
+        if is_turn(label, item) {
+            return false;
+        }
+    }
+    false
+}
+
 impl Head {
     /// The head of a function's code, if that has one. A branch on one word is no test of a loop: so the tests of tokens stay.
     pub fn of(alloc: Global, function: usize, code: &[Item]) -> Result<Option<Head>, NoMemory>
@@ -114,6 +168,7 @@ impl Head {
                     condition: *condition,
                     exit: *exit,
                     args: copy_of_operands(alloc, args)?,
+                    stays: returns_straight(*exit, code),
                 }));
             }
             if !is_straight(item) || before.len() == MOST_BEFORE {
@@ -144,11 +199,21 @@ impl Head {
         self.branch(alloc, self.condition, self.exit)
     }
 
-    /// The test turned round.
-    pub fn turned_test(&self, alloc: Global) -> Result<Item, NoMemory>
+    /// The test as it stands again: as it is, or turned round.
+    pub fn test_again(&self, alloc: Global) -> Result<Item, NoMemory>
         ensures { IfOk result (λ item. placed_line_of item ≡ goes_on (loop_of self.now [])) }
     {
+        if self.stays {
+            return self.test(alloc);
+        }
         self.branch(alloc, self.condition.opposite(), AGAIN)
+    }
+
+    /// Where the jump behind that leads.
+    pub fn way_out(&self) -> u32
+        ensures { result ≡ cond self.now.stays AGAIN self.now.exit }
+    {
+        if self.stays { AGAIN } else { self.exit }
     }
 }
 

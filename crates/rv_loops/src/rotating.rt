@@ -23,7 +23,7 @@ fn bare(alloc: Global, action: Action) -> Item
     }
 }
 
-/// Adds what a line becomes: a tail call of the function itself becomes the head with its test turned round.
+/// Adds what a line becomes: a tail call of the function itself becomes the head again, with a jump behind it.
 fn add_rotated(
     alloc: Global,
     code: &mut Vec<Item>,
@@ -35,8 +35,8 @@ fn add_rotated(
 {
     if is_call_of(head.function, item) {
         add_copies(alloc, code, &head.before)?;
-        code.push(head.turned_test(alloc)?)?;
-        code.push(bare(alloc, Action::Jump(head.exit)))?;
+        code.push(head.test_again(alloc)?)?;
+        code.push(bare(alloc, Action::Jump(head.way_out())))?;
     } else {
         code.push(item.copied(alloc)?)?;
     }
