@@ -24,7 +24,7 @@ use Rattle.cell_runtime.specs.Registers.{KeptBy}
 use Rattle.cell_runtime.specs.Calls.{HasWayBack, Exits}
 use Rattle.cell_runtime.specs.Lines.{Makes}
 use Rattle.cell_runtime.specs.Takes.{from_chain, at_border, from_held, IsFull, AfterTake, IsTakeOfPools}
-use Rattle.rv_isa.proofs.Registers.{x0, x1, x5, x8, x9, x10, x18, x19}
+use Rattle.rv_isa.proofs.Registers.{x0, x1, x5, x8, x9, x18, x19}
 use Rattle.rv_isa.specs.Numbers.{cell_size}
 use Rattle.cell_runtime.proofs.Operands.{imm_0, imm_4, imm_cell_size, imm_heap_full, forward_16, forward_24}
 use Rattle.cell_runtime.proofs.Spelling.{plain, plain_makes}

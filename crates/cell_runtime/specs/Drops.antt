@@ -1,4 +1,4 @@
--- The routine that gives up the references of a cell whose last reference is given up.
+-- The routine that frees a cell whose last reference was given up, and gives up the references in its fields.
 use Rattle.std.specs.Prelude.{◌≡◌, ℕ, ◌+◌, ◌*◌, ◌≤◌, List, [], ◌∷◌}
 use Rattle.rv_isa.specs.Bytes.{with_number}
 use Rattle.rv_isa.specs.Processor.{Processor, value}
@@ -26,7 +26,7 @@ Frees cell body view dropped =
     Turns [] (cell ∷ []) view.frees (changed cell (waiting body) view.heap) dropped.gave dropped.freed dropped.frees dropped.heap
 
 -- The last reference to a cell was given up: its count is lowered from 1 to 0 in a memory that has the cells of the view, and the cell, whose
--- address is in x10, waits. Each turn from there can be taken. Whether counts are right does not matter
+-- address is in x10, waits. Each turn from there can be taken. The counts of other cells need not be right.
 pub record BeforeDrop (pool : Pool) (cell : ℕ) (body : Body) (view : View) (dropped : Dropped) (s : Processor) : Type 0 where
   pub way_back : HasWayBack s
   pub cell_is : value s.registers 10 ≡ cell
@@ -36,7 +36,7 @@ pub record BeforeDrop (pool : Pool) (cell : ℕ) (body : Body) (view : View) (dr
   pub lowered : s.memory ≡ with_number cell 4 0 counting
   pub turns : Frees cell body view dropped
 
--- the most instructions of a drop: for each reference that is given up, for each cell that is freed, and for its begin and end
+-- the most instructions of a whole drop, but for its call: for each reference that is given up, for each cell that is freed, and once
 abbrev pub given_cost : ℕ
 given_cost = 8
 
@@ -49,8 +49,7 @@ begun_cost = 5
 abbrev pub most_drop_cost : ℕ → ℕ → ℕ
 most_drop_cost gave freed = given_cost * gave + freed_cost * freed + begun_cost
 
--- the most of the routine, by the references that are given up behind the first one: each of these and each cell costs as much, its begin and
--- end less
+-- the most instructions of the routine: as much for each further reference and for each freed cell, and less once
 abbrev pub called_cost : ℕ
 called_cost = 3
 

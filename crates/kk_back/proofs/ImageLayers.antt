@@ -1,8 +1,6 @@
 -- The image of assembler code does what that code does, layer by layer: the placed code, that code with its loops rotated, and the
 -- processor.
 use Rattle.std.proofs.Common.{◌≡◌, ◌+◌, ◌*◌, ◌%◌, ◌^◌, ◌<◌, ◌≤◌, ◌≢◌, ◌⊎◌, inl, inr, ℕ, true, List, All, Some, length, slice_get, refl, sym, ap, subst, ◌∙◌, arith}
-use Rattle.std.specs.Prelude.{not}
-use Rattle.std.proofs.lemmas.Bool.{and_parts}
 use Rattle.kk_base.specs.Agreements.{Agree}
 use Rattle.kk_base.specs.Machines.{Machine, state, trace}
 use Rattle.kk_base.specs.Sizes.{AreSizes}
@@ -17,8 +15,7 @@ use Rattle.rv_isa.specs.AsmMachine.{AsmState, AsmTurn, asm_machine, asm_start}
 use Rattle.rv_isa.specs.PlacedCode.{PlacedLines, placed_functions, placed_constants, placed_memory}
 use Rattle.rv_isa.specs.PlacedMachine.{PlacedState, PlacedTurn, placed_machine, placed_start}
 use Rattle.rv_isa.specs.FreeTouches.{TouchesNoFreeCell}
-use Rattle.rv_isa.specs.LinePlaces.{AsmIsAt, PlacedIsAt, AsmHasLine, PlacedHasLine, AsmHasOwnLine, PlacedHasOwnLine, is_always_some}
-use Rattle.rv_isa.specs.LinePlaces.{is_test}
+use Rattle.rv_isa.specs.LinePlaces.{AsmIsAt, PlacedIsAt, AsmHasLine, PlacedHasLine, AsmHasOwnLine, PlacedHasOwnLine}
 use Rattle.rv_isa.specs.Primitives.{go, ended, stuck}
 use Rattle.rv_isa.specs.Processor.{Processor, Ending, can_fetch, start, goes}
 use Rattle.rv_isa.specs.Execution.{rv32im, run}
@@ -27,6 +24,7 @@ use Rattle.rv_isa.specs.Costs.{functions_length, placed_functions_length}
 use Rattle.rv_isa.specs.Sizes.{wide_frame}
 use Rattle.rv_isa.specs.ValueBounds.{HaveValuesBelow}
 use Rattle.rv_isa.specs.WellFormed.{AreWellFormed, most_values}
+use Rattle.rv_isa.proofs.OwnActions.{own_is_some}
 use Rattle.rv_isa.proofs.ValueBounds.{all_values_below}
 use Rattle.elf_image.specs.Parts.{memory_of}
 use Rattle.elf_image.specs.Program.{IsProgramImage, program_parts, text_of, memory_size_of, text_start, memory_start}
@@ -271,7 +269,7 @@ looped_ended_alike q q' IsAt how world stuck stands = absurd stands
 own_has_line : (functions : List Lines) (f k : ℕ) → AsmHasOwnLine functions f k → AsmHasLine functions f k
 own_has_line functions f k has =
     let line = has.1.1.0 in
-    (has.0, (has.1.0, (line, (has.1.1.1.0, (and_parts (not (is_test line.action (length line.args))) (is_always_some line.action) has.1.1.1.1).1))))
+    (has.0, (has.1.0, (line, (has.1.1.1.0, own_is_some line.action (length line.args) has.1.1.1.1))))
 
 -- a word of a text can be fetched from the memory of its image
 fetched : (text : List ℕ) (size at : ℕ) → text_start ≤ at → at + 4 ≤ text_start + length text

@@ -43,13 +43,12 @@ abbrev pub HasHeldFrames : Pool → ℕ → ℕ → AsmState World → Processor
 HasHeldFrames pool frame stack high s =
     (links : List Link) × (HoldsCells pool high.shared.cells links s × AreHeld frame stack high.frames links)
 
--- The lines of assembler code in its image. Each line that is always an instruction and no test has an address of its own, a
--- multiple of 4 behind the runtime's words, which stand at the entry, and a word can be fetched there as an instruction. (The test
--- at the head of a loop stands again at the loop's end, and only the first turn comes to that at the head.) On each input on which
--- that code never is at a loss, the image follows the code's machine: for each state that goes on there is a number of instructions
--- behind which the run goes on, memory has the cells of the world and the held tokens of the frames, and the same events are told.
--- Where the machine is at such a line, there is such a number behind which memory has the cells, and the program counter is at the
--- line's address. The cells and the frames fill the memory.
+-- The lines of assembler code in its image. Each own line has an address of its own, a multiple of 4 behind the runtime's words,
+-- which stand at the entry, and a word can be fetched there as an instruction. On each input on which that code never is at a loss,
+-- the image follows the code's machine: for each state that goes on there is a number of instructions behind which the run goes on,
+-- memory has the cells of the world and the held tokens of the frames, and the same events are told. Where the machine is at such a
+-- line, there is such a number behind which memory has the cells, and the program counter is at the line's address. The cells and
+-- the frames fill the memory.
 pub record HasLineAddresses (functions : List Lines) (main : Lines) (constants : Constants) (pool : Pool) (depth entry : ℕ)
     (parts : List Part) : Type 0 where
   pub address : ℕ → ℕ → ℕ

@@ -18,9 +18,9 @@ use rv_regs::assign;
 use std::alloc::Global;
 
 /// The image of assembler code, with a heap of `cells` cells, of whose calls at most `depth` are open at a time. The loaded image
-/// does what the code does, and touches no free cell outside of the runtime's words. Each line of the code that is always an
-/// instruction and no test has an address of its own behind these, to which the program counter comes, and goes on there, where the
-/// code comes to the line. At such moments memory has the code's cells. For each state of the code that goes on there is a moment
+/// does what the code does, and touches no free cell outside of the runtime's words. Each own line of the code, which does more than
+/// compute a value or give one back, and is no test, has an address of its own behind these, to which the program counter comes, and
+/// goes on there, where the code comes to the line. At such moments memory has the code's cells. For each state of the code that goes on there is a moment
 /// at which it has the held tokens of the frames too.
 pub fn assembled(alloc: Global, asm: &Asm, cells: u32, depth: u32) -> Result<Image, NoMemory>
     requires placeable { IsPlaceable (asm_functions asm.now) (asm_constants asm.now) }

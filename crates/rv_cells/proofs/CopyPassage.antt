@@ -1,26 +1,22 @@
--- The assembler's machine goes past the copies, and the constants that registers hold always, that lines begin with: it stays in its function, and tells nothing.
-use Rattle.std.proofs.Common.{◌≡◌, ◌≢◌, ℕ, zero, suc, ◌≤◌, Bool, true, false, ◌⊎◌, inl, inr, cond, List, [], ◌∷◌, ◌++◌, drop, length}
-use Rattle.std.proofs.Common.{Option, Some, None, is_some, map}
+-- The assembler's machine goes past the copies and constants that lines begin with: it stays in its function, and tells nothing.
+use Rattle.std.proofs.Common.{◌≡◌, ◌≢◌, ℕ, zero, suc, ◌≤◌, Bool, true, false, cond, List, [], ◌∷◌, ◌++◌, drop, length}
+use Rattle.std.proofs.Common.{Option, Some, None, map, option_map}
 use Rattle.std.proofs.Common.{refl, sym, ◌∙◌, ap, subst, arith}
 use Rattle.std.proofs.Math.Seq.{drop-length}
 use Rattle.kk_base.specs.Machines.{Machine, state, trace}
 use Rattle.kk_base.specs.Trace.{Event}
 use Rattle.cell_heap.specs.Pool.{Pool}
 use Rattle.rv_isa.specs.declared.asm.Action.TheVariants.{Compute}
-use Rattle.rv_isa.specs.declared.asm.Operation.TheVariants.{Mv, Li}
+use Rattle.rv_isa.specs.declared.asm.Operation.TheVariants.{Mv, Li, La}
 use Rattle.rv_isa.specs.AsmCode.{Line, Lines}
 use Rattle.rv_isa.specs.AsmMachine.{AsmTurn, asm_goes, asm_acts, asm_line, asm_next, asm_told, asm_machine}
-use Rattle.rv_isa.specs.Frames.{Frame, all_of}
-use Rattle.rv_isa.specs.Conventions.{home}
-use Rattle.rv_isa.specs.LinePlaces.{is_copy}
+use Rattle.rv_isa.specs.Frames.{Frame, put_into, all_of}
 use Rattle.rv_isa.specs.declared.asm.Action.{Action}
-use Rattle.std.proofs.lemmas.Bool.{or_cases}
 use Rattle.rv_isa.specs.Primitives.{Turn, stuck, or_stuck}
 use Rattle.rv_isa.specs.Processor.{Ending}
-use Rattle.rv_isa.proofs.Copies.{copy_is, home_is}
-use Rattle.cell_runtime.specs.Operations.{Constants}
+use Rattle.cell_runtime.specs.Operations.{Constants, computed}
 use Rattle.cell_runtime.specs.World.{World, primitives}
-use Rattle.rv_cells.proofs.FormArities.{may_be_none, lead}
+use Rattle.rv_cells.proofs.FormArities.{makes_word, lead}
 
 -- where nothing is stuck, a value that is gone on with is there
 some_there : {A S H W : Type 0} (o : Option A) (next : A → Turn S H W) → or_stuck o next ≢ stuck
@@ -28,11 +24,7 @@ some_there : {A S H W : Type 0} (o : Option A) (next : A → Turn S H W) → or_
 some_there None next good = absurd (good refl)
 some_there (Some a) next good = (a, refl)
 
-some_value : (o : Option ℕ) → is_some o ≡ true → (x : ℕ) × (o ≡ Some x)
-some_value None is = cc is
-some_value (Some x) is = (x, refl)
-
--- lines that begin with so many copies begin with one, and the others with one less
+-- lines that begin with so many such lines begin with one, and the others with one less
 lead_copy : (copy : Bool) (n rest : ℕ) → suc n ≤ cond copy (suc rest) 0 → (copy ≡ true) × (n ≤ rest)
 lead_copy true n rest few = (refl, omega arith)
 lead_copy false n rest few = absurd (omega arith)
@@ -53,54 +45,35 @@ module _ (constants : Constants) (pool : Pool) (depth : ℕ) (functions : List L
     whole : frame.whole ≡ f.whole
     code : frame.code ≡ left
 
-  -- behind a copy
-  copied : (f : Frame Line) (fs : List (Frame Line)) (world : World) (args : List ℕ) (into : Option ℕ) (rest : List Line)
-      (words : List ℕ)
-      → asm_acts (primitives constants pool) depth functions (record f { code = rest }) fs world (Compute Mv) args into words
-      ≢ stuck
+  -- behind a word that is made
+  made : (f : Frame Line) (fs : List (Frame Line)) (world : World) (into : Option ℕ) (rest : List Line) (word : Option ℕ)
+      → or_stuck {W = Ending} (option_map (λ w. (w, world)) word)
+      (λ r. asm_goes (record f { code = rest; cells = put_into into r.0 f.cells }) fs r.1) ≢ stuck
       → GoesOn f rest fs world
-      (asm_acts (primitives constants pool) depth functions (record f { code = rest }) fs world (Compute Mv) args into words)
-  copied f fs world args into rest [] good = absurd (good refl)
-  copied f fs world args into rest (word ∷ []) good = record { frame = _; is = refl; function = refl; whole = refl; code = refl }
-  copied f fs world args into rest (word ∷ other ∷ words) good = absurd (good refl)
-
-  -- behind a constant
-  constant : (f : Frame Line) (fs : List (Frame Line)) (world : World) (word : ℕ) (args : List ℕ) (into : Option ℕ) (rest : List Line) (words : List ℕ)
-      → asm_acts (primitives constants pool) depth functions (record f { code = rest }) fs world (Compute (Li word)) args into words ≢ stuck
-      → GoesOn f rest fs world
-      (asm_acts (primitives constants pool) depth functions (record f { code = rest }) fs world (Compute (Li word)) args into words)
-  constant f fs world word args into rest [] good = record { frame = _; is = refl; function = refl; whole = refl; code = refl }
-  constant f fs world word args into rest (other ∷ words) good = absurd (good refl)
+      (or_stuck (option_map (λ w. (w, world)) word) (λ r. asm_goes (record f { code = rest; cells = put_into into r.0 f.cells }) fs r.1))
+  made f fs world into rest None good = absurd (good refl)
+  made f fs world into rest (Some word) good = record { frame = _; is = refl; function = refl; whole = refl; code = refl }
 
   passed_by : (f : Frame Line) (fs : List (Frame Line)) (world : World) (args : List ℕ) (into : Option ℕ) (rest : List Line) (words : List ℕ)
-      (action : Action) → (is_copy action ≡ true) ⊎ (is_some (home action) ≡ true)
+      (action : Action) → makes_word action ≡ true
       → asm_acts (primitives constants pool) depth functions (record f { code = rest }) fs world action args into words ≢ stuck
       → GoesOn f rest fs world (asm_acts (primitives constants pool) depth functions (record f { code = rest }) fs world action args into words)
-  passed_by f fs world args into rest words action (inl copy) good =
-      let turn : Action → AsmTurn World Ending
-      = λ a. asm_acts (primitives constants pool) depth functions (record f { code = rest }) fs world a args into words in
-      subst (λ a. GoesOn f rest fs world (turn a)) (sym (copy_is action copy))
-      (copied f fs world args into rest words (subst (λ a. turn a ≢ stuck) (copy_is action copy) good))
-  passed_by f fs world args into rest words action (inr some) good =
-      let held = some_value (home action) some in
-      let gives = home_is action held.0 held.1 in
-      let turn : Action → AsmTurn World Ending
-      = λ a. asm_acts (primitives constants pool) depth functions (record f { code = rest }) fs world a args into words in
-      subst (λ a. GoesOn f rest fs world (turn a)) (sym gives.1)
-      (constant f fs world gives.0 args into rest words (subst (λ a. turn a ≢ stuck) gives.1 good))
+  passed_by f fs world args into rest words (Compute Mv) makes good = made f fs world into rest (computed constants Mv words) good
+  passed_by f fs world args into rest words (Compute (Li word)) makes good = made f fs world into rest (computed constants (Li word) words) good
+  passed_by f fs world args into rest words (Compute (La index)) makes good = made f fs world into rest (computed constants (La index) words) good
+  passed_by f fs world args into rest words action makes good = cc makes
 
-  by_line : (f : Frame Line) (fs : List (Frame Line)) (world : World) (line : Line) (rest : List Line) → may_be_none line.action ≡ true
+  by_line : (f : Frame Line) (fs : List (Frame Line)) (world : World) (line : Line) (rest : List Line) → makes_word line.action ≡ true
       → asm_line (primitives constants pool) depth functions f fs world (line ∷ rest) ≢ stuck
       → GoesOn f rest fs world (asm_line (primitives constants pool) depth functions f fs world (line ∷ rest))
-  by_line f fs world line rest copy good =
+  by_line f fs world line rest makes good =
       let acts : List ℕ → AsmTurn World Ending = λ words. asm_acts (primitives constants pool) depth functions
       (record f { code = rest }) fs world line.action line.args line.into words in
       let there = some_there (all_of (map f.cells line.args)) acts good in
       subst (GoesOn f rest fs world) (sym there.1)
-      (passed_by f fs world line.args line.into rest there.0 line.action (or_cases (is_copy line.action) (is_some (home line.action)) copy)
-      (subst (λ turn. turn ≢ stuck) there.1 good))
+      (passed_by f fs world line.args line.into rest there.0 line.action makes (subst (λ turn. turn ≢ stuck) there.1 good))
 
-  -- Behind copies: the machine has told nothing.
+  -- Behind copies and constants: the machine has told nothing.
   pub record Past (n : ℕ) (f : Frame Line) (fs : List (Frame Line)) (world : World) : Type 0 where
     pub frame : Frame Line
     pub there : state machine n (asm_goes f fs world) ≡ asm_goes frame fs world
@@ -120,7 +93,7 @@ module _ (constants : Constants) (pool : Pool) (depth : ℕ) (functions : List L
           → Past (suc n) f fs world
       by [] is few others = absurd (omega arith)
       by (line ∷ rest) is few others =
-          let both = lead_copy (may_be_none line.action) n (lead rest) few in
+          let both = lead_copy (makes_word line.action) n (lead rest) few in
           let same : next (asm_goes f fs world) ≡ asm_line (primitives constants pool) depth functions f fs world (line ∷ rest)
           = ap (asm_line (primitives constants pool) depth functions f fs world) is in
           let one = subst (GoesOn f rest fs world) (sym same)

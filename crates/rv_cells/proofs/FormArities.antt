@@ -1,6 +1,6 @@
 -- Forms with tokens have as many arguments as they take, where their bare forms do; and a call, a print and a construction with
--- fields begins with copies, or with none, and behind them has a line that is always an instruction.
-use Rattle.std.proofs.Common.{◌≡◌, ℕ, zero, suc, ◌+◌, ◌≤◌, ◌<◌, ◌||◌, ◌&&◌, not, Bool, true, false, cond, List, [], ◌∷◌, ◌++◌, length, Option, Some, None, is_some, is_none, slice_get}
+-- fields begins with copies and constants, or with none, and behind them has an own line.
+use Rattle.std.proofs.Common.{◌≡◌, ℕ, zero, suc, ◌+◌, ◌≤◌, ◌<◌, ◌&&◌, not, Bool, true, false, cond, List, [], ◌∷◌, ◌++◌, length, Option, Some, None, slice_get}
 use Rattle.std.proofs.Common.{refl, sym, ◌∙◌, ap, subst, arith}
 use Rattle.kk_syntax.specs.declared.program.Form.{Form}
 use Rattle.kk_syntax.specs.declared.program.Form.TheVariants.{Number, Unit as Nothing, ReadByte, PrintText, Unary, Binary, Print, Construct, Call}
@@ -15,10 +15,10 @@ use Rattle.kk_counted.specs.TokenSpending.{SpendsTokens, SpendAllTokens}
 use Rattle.kk_counted.specs.TokenedCodes.{Tokened, TokenedArms}
 use Rattle.rv_isa.specs.AsmCode.{Line}
 use Rattle.rv_isa.specs.declared.asm.Action.{Action}
-use Rattle.rv_isa.specs.Conventions.{constant_registers, home}
-use Rattle.rv_isa.specs.LinePlaces.{is_copy, is_own}
-use Rattle.rv_isa.specs.declared.asm.Action.TheVariants.{Jump}
-use Rattle.rv_lower.specs.Lines.{acts, copies_to, sets, choice_of, copies, PrintLines}
+use Rattle.rv_isa.specs.declared.asm.Action.TheVariants.{Compute, Jump}
+use Rattle.rv_isa.specs.declared.asm.Operation.TheVariants.{Mv, Li, La}
+use Rattle.rv_isa.specs.LinePlaces.{is_own}
+use Rattle.rv_lower.specs.Lines.{acts, copies_to, sets, copies, PrintLines}
 use Rattle.rv_lower.specs.Lowered.{Goal}
 use Rattle.rv_cells.specs.declared.compare.Branching.{Branching}
 use Rattle.rv_cells.specs.ComparisonBranch.{branch_of}
@@ -95,16 +95,19 @@ mutual
 abbrev pub is_own_act : Tokened → Bool
 is_own_act code = not (is_quiet code) && is_act (bare code)
 
--- whether the action may be no instruction: a copy, or a constant that a register holds always
-abbrev pub may_be_none : Action → Bool
-may_be_none action = is_copy action || is_some (home action)
+-- whether the action makes a word and nothing else, of another one or of none
+abbrev pub makes_word : Action → Bool
+makes_word (Compute Mv) = true
+makes_word (Compute (Li word)) = true
+makes_word (Compute (La index)) = true
+makes_word _ = false
 
 -- how many of these lines begin with
 abbrev pub lead : List Line → ℕ
 lead [] = 0
-lead (line ∷ lines) = cond (may_be_none line.action) (suc (lead lines)) 0
+lead (line ∷ lines) = cond (makes_word line.action) (suc (lead lines)) 0
 
--- behind them is a line that is always an instruction, and no test
+-- behind them is an own line
 pub record Begins (lines : List Line) : Type 0 where
   pub line : Line
   pub is : slice_get lines (lead lines) ≡ Some line
@@ -115,7 +118,7 @@ abbrev pub StartsBehind : ℕ → Parts → Type 0
 StartsBehind first no_part = Unit {0}
 StartsBehind first (part way before inner more) = first ≤ length before
 
--- a code begins with lines of its own, of which one is always an instruction and no test
+-- a code begins with lines of its own, of which one is an own line
 pub record IsOwn (own : List Line) (parts : Parts) : Type 0 where
   pub begins : Begins own
   pub apart : StartsBehind (suc (lead own)) parts
@@ -123,7 +126,7 @@ pub record IsOwn (own : List Line) (parts : Parts) : Type 0 where
 begins_by : (lines these : List Line) → lines ≡ these → Begins these → Begins lines
 begins_by lines these is begins = subst Begins (sym is) begins
 
-begins_at : (line : Line) (more : List Line) → may_be_none line.action ≡ false → is_own line.action (length line.args) ≡ true
+begins_at : (line : Line) (more : List Line) → makes_word line.action ≡ false → is_own line.action (length line.args) ≡ true
     → Begins (line ∷ more)
 begins_at line more no_copy some = record {
   line = line;
@@ -131,18 +134,13 @@ begins_at line more no_copy some = record {
   some = some;
 }
 
--- behind a copy
-begins_behind_copy : (x base : ℕ) (more : List Line) → Begins more → Begins (copies_to x base ∷ more)
-begins_behind_copy x base more begins = record { line = begins.line; is = begins.is; some = begins.some }
-
--- behind a constant
-sets_by : (held : Option ℕ) (word base : ℕ) (more : List Line) → slice_get constant_registers word ≡ held → Begins more → Begins (sets word base ∷ more)
-sets_by (Some x) word base more is begins = record {
+-- behind a line that makes a word
+begins_behind : (line : Line) (more : List Line) → makes_word line.action ≡ true → Begins more → Begins (line ∷ more)
+begins_behind line more makes begins = record {
   line = begins.line;
-  is = ap (λ held. slice_get (sets word base ∷ more) (cond (is_some held) (suc (lead more)) 0)) is ∙ begins.is;
+  is = ap (λ one. slice_get (line ∷ more) (cond one (suc (lead more)) 0)) makes ∙ begins.is;
   some = begins.some;
 }
-sets_by None word base more is begins = begins_at (sets word base) more (ap is_some is) (ap (λ held. is_none held && true) is)
 
 -- a line that is there, in front of others too
 pub get_left : (xs ys : List Line) (k : ℕ) (line : Line) → slice_get xs k ≡ Some line → slice_get (xs ++ ys) k ≡ Some line
@@ -167,7 +165,7 @@ lead_front : (first more : List Line) (line : Line) → slice_get first (lead fi
     → lead (first ++ more) ≡ lead first
 lead_front [] more line is = cc is
 lead_front (line ∷ first) more there is =
-    lead_ends (may_be_none line.action) line first more there (lead_front first more there) is
+    lead_ends (makes_word line.action) line first more there (lead_front first more there) is
 
 -- with others behind them there are no less
 less_ends : (copy : Bool) (front whole : ℕ) → front ≤ whole → cond copy (suc front) 0 ≤ cond copy (suc whole) 0
@@ -177,7 +175,7 @@ less_ends false front whole less = omega arith
 pub lead_less : (first more : List Line) → lead first ≤ lead (first ++ more)
 lead_less [] more = omega arith
 lead_less (line ∷ first) more =
-    less_ends (may_be_none line.action) (lead first) (lead (first ++ more)) (lead_less first more)
+    less_ends (makes_word line.action) (lead first) (lead (first ++ more)) (lead_less first more)
 
 -- lines in front of others
 begins_more : (lines first more : List Line) → lines ≡ first ++ more → Begins first → Begins lines
@@ -190,22 +188,23 @@ begins_more lines first more is begins =
     })
 
 -- the copies of arguments, and what comes behind them
-copies_begin : (base : ℕ) (arguments : List ℕ) (last : Line) → may_be_none last.action ≡ false → is_own last.action (length last.args) ≡ true
+copies_begin : (base : ℕ) (arguments : List ℕ) (last : Line) → makes_word last.action ≡ false → is_own last.action (length last.args) ≡ true
     → Begins (copies base arguments ++ (last ∷ []))
 copies_begin base [] last no_copy some = begins_at last [] no_copy some
 copies_begin base (x ∷ xs) last no_copy some =
-    begins_behind_copy x base (copies (base + 1) xs ++ (last ∷ [])) (copies_begin (base + 1) xs last no_copy some)
+    begins_behind (copies_to x base) (copies (base + 1) xs ++ (last ∷ [])) refl (copies_begin (base + 1) xs last no_copy some)
 
 -- a print of constant bytes
 print_begins : (base : ℕ) (texts : List (List ℕ)) (bytes : List ℕ) (print : List Line) (last : Line)
     → PrintLines base texts bytes print → Begins (print ++ (last ∷ []))
 print_begins base texts bytes print last is =
-    begins_by (print ++ (last ∷ [])) _ (ap (λ ls. ls ++ (last ∷ [])) is.2) (begins_at _ _ refl refl)
+    begins_by (print ++ (last ∷ [])) _ (ap (λ ls. ls ++ (last ∷ [])) is.2)
+    (begins_behind _ _ refl (begins_behind _ _ refl (begins_at _ _ refl refl)))
 
 -- the lines by which an opening goes on behind the test of a construction
 pub entry_own : (token into filled : ℕ) → IsOwn (entry_lines token into filled) no_part
 entry_own token into filled = record {
-  begins = begins_behind_copy token into (acts (Jump filled) [] ∷ []) (begins_at (acts (Jump filled) []) [] refl refl);
+  begins = begins_behind (copies_to token into) (acts (Jump filled) [] ∷ []) refl (begins_at (acts (Jump filled) []) [] refl refl);
   apart = tt;
 }
 
@@ -227,13 +226,13 @@ module _ (setting : Setting) (variables : ℕ) where
   form_begins low x (Print how) (a ∷ b ∷ more) others joined rest own high lines arity act = absurd (omega (arith, arity))
   form_begins low x (Print how) (a ∷ []) others joined rest own high lines arity act =
       begins_by own _ lines.0
-      (begins_behind_copy _ _ _ (sets_by (slice_get constant_registers (choice_of how)) (choice_of how) (setting.base + 1) _ refl (begins_at _ _ refl refl)))
+      (begins_behind _ _ refl (begins_behind _ _ refl (begins_at _ _ refl refl)))
   form_begins low x (Construct c) [] others joined rest own high lines arity act = cc act
   form_begins low x (Construct c) (a ∷ more) [] joined rest own high lines arity act =
       begins_by own _ lines.0.6 (begins_at _ _ refl refl)
   form_begins low x (Construct c) (a ∷ more) (other ∷ others) joined rest own high lines arity act =
       begins_by own _ lines.2
-      (sets_by (Some 0) 0 x lines.0 refl (begins_by lines.0 _ lines.1.4 (begins_behind_copy _ _ _ (begins_at _ _ refl refl))))
+      (begins_behind (sets 0 x) lines.0 refl (begins_by lines.0 _ lines.1.4 (begins_behind _ _ refl (begins_at _ _ refl refl))))
   form_begins low x (Call f) arguments others joined rest own high lines arity act =
       begins_by own _ lines.0 (copies_begin setting.base arguments _ refl refl)
 
@@ -265,7 +264,7 @@ module _ (setting : Setting) (variables : ℕ) where
   act_own left goal low (Tokened.dup x rest) own high lines arity act = cc act
   act_own left goal low (Tokened.drop x rest) own high lines arity act = cc act
   act_own left goal low (Tokened.fill x y c first arguments kept others rest) own high lines arity act =
-      own_by own lines.0 lines.1 _ _ lines.4 (begins_by lines.0 _ lines.2.4 (begins_behind_copy _ _ _ (begins_at _ _ refl refl)))
+      own_by own lines.0 lines.1 _ _ lines.4 (begins_by lines.0 _ lines.2.4 (begins_behind _ _ refl (begins_at _ _ refl refl)))
   act_own left goal low (Tokened.free y rest) own high lines arity act = cc act
   act_own left goal low (Tokened.null y rest) own high lines arity act = cc act
   act_own left goal low (Tokened.move to of rest) own high lines arity act = cc act

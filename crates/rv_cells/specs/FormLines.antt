@@ -22,8 +22,7 @@ use Rattle.rv_cells.specs.TokenedMeaning.{roomy_outside}
 
 -- Each call, print and construction with fields of a program has lines of its own in the code of its function: one line or more,
 -- one for each side of the tests of tokens in front of it, and one for an opening that goes on behind the test of the construction.
--- Each of them is always an instruction, and no test of two words: it stands behind the copies of what the form takes. No other such
--- form has one of them.
+-- Each of them is an own line: it stands behind the copies and constants that the form takes. No other such form has one of them.
 pub record HaveOwnLines (code : CountedProgram) (functions : List Lines) : Type 0 where
   pub lines : ℕ → List ℕ → List ℕ
   pub some : (f : ℕ) (way : List ℕ) (act : Counted) → IsActAt code f way act → (k : ℕ) × (is_among (lines f way) k ≡ true)

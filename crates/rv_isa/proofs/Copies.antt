@@ -2,7 +2,7 @@
 -- lose its word.
 use Rattle.std.proofs.Common.{◌≡◌, ℕ, Some, true, refl, ap, slice_get}
 use Rattle.rv_isa.specs.declared.asm.Action.{Action}
-use Rattle.rv_isa.specs.declared.asm.Action.TheVariants.{Compute, Label, Jump, Branch, Call, TailCall, Return, Routine, Hold, Unhold}
+use Rattle.rv_isa.specs.declared.asm.Action.TheVariants.{Compute, Label, Jump, Branch, Call, TailCall, Return, Routine, Hold, Unhold, Room}
 use Rattle.rv_isa.specs.declared.asm.Operation.{Operation}
 use Rattle.rv_isa.specs.declared.asm.Operation.TheVariants as OfOperation
 use Rattle.rv_isa.specs.declared.immediate.Immediate.{Immediate}
@@ -33,6 +33,7 @@ copy_is Return is = cc is
 copy_is (Routine routine) is = cc is
 copy_is Hold is = cc is
 copy_is Unhold is = cc is
+copy_is Room is = cc is
 
 -- what gives a word that a register holds always
 abbrev pub GivesConstant : Action → ℕ → Type 0
@@ -61,6 +62,7 @@ home_is Return x is = cc is
 home_is (Routine routine) x is = cc is
 home_is Hold x is = cc is
 home_is Unhold x is = cc is
+home_is Room x is = cc is
 
 -- what loses its word is a load
 pub lost_is : (action : Action) (place : Place) → is_lost action place ≡ true

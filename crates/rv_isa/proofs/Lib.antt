@@ -21,4 +21,5 @@ pub mod Standing
 pub mod Steps
 pub mod Calls
 pub mod HeldTokens
+pub mod OwnActions
 pub mod ValueBounds

@@ -2,7 +2,7 @@
 use Rattle.std.specs.Prelude.{◌==◌, ℕ, ◌+◌, ◌*◌, List, [], ◌∷◌, Option, Some, None, Bool, false, cond, option_map, map, length, drop, nat_le, slice_get}
 use Rattle.kk_base.specs.Machines.{Machine, weighing}
 use Rattle.rv_isa.specs.declared.asm.Action.{Action}
-use Rattle.rv_isa.specs.declared.asm.Action.TheVariants.{Compute, Label, Jump, Branch, Call, TailCall, Return, Routine, Hold, Unhold}
+use Rattle.rv_isa.specs.declared.asm.Action.TheVariants.{Compute, Label, Jump, Branch, Call, TailCall, Return, Routine, Hold, Unhold, Room}
 use Rattle.rv_isa.specs.AsmCode.{Line, Lines}
 use Rattle.rv_isa.specs.Primitives.{Reply, answers, ends, fails, Primitives, Turn, go, ended, stuck, or_stuck, by_token, end_of}
 use Rattle.rv_isa.specs.Frames.{Frame, empty, put, put_into, all_of, only_of, twice_of, result_of, received, found, top, taken_if, holding, unholding}
@@ -57,7 +57,7 @@ abbrev pub unless_held : {S H W : Type 0} → List ℕ → Turn S H W → Turn S
 unless_held [] next = next
 unless_held (cell ∷ held) next = stuck
 
--- What an action does with the words of its arguments. A call finds the stack full where `depth` frames stand.
+-- What an action does with the words of its arguments. A call and a Room find the stack full where `depth` frames stand.
 abbrev pub asm_acts : {H E W : Type 0} → Primitives H E W → ℕ → List Lines → Frame Line → List (Frame Line) → H → Action → List ℕ → Option ℕ → List ℕ → AsmTurn H W
 asm_acts m depth q f fs shared (Compute operation) args into words =
     or_stuck (m.compute operation words shared) (λ r. asm_goes (record f { cells = put_into into r.0 f.cells }) fs r.1)
@@ -80,6 +80,8 @@ asm_acts m depth q f fs shared Hold args into words =
 asm_acts m depth q f fs shared Unhold args into words =
     or_stuck (only_of args) (λ value. or_stuck (only_of words) (λ word. or_stuck (unholding value word f.held) (λ held.
     or_stuck (by_token m.unhold word shared) (λ next. asm_goes (record f { cells = put_into into word f.cells; held = held }) fs next))))
+asm_acts m depth q f fs shared Room args into words =
+    cond (nat_le depth (length (f ∷ fs))) (ended m.stack_full shared) (asm_goes f fs shared)
 
 -- The words of the arguments are read first: a value that was not written cannot be read.
 abbrev pub asm_line : {H E W : Type 0} → Primitives H E W → ℕ → List Lines → Frame Line → List (Frame Line) → H → List Line → AsmTurn H W

@@ -3,7 +3,7 @@ use Rattle.std.specs.Prelude.{◌==◌, ℕ, suc, ◌+◌, List, [], ◌∷◌, 
 use Rattle.std.specs.List.{list_any}
 use Rattle.rv_isa.specs.Routines.{taken_by, given_by, is_spoilt_by}
 use Rattle.rv_isa.specs.declared.asm.Action.{Action}
-use Rattle.rv_isa.specs.declared.asm.Action.TheVariants.{Compute, Label, Jump, Branch, Call, TailCall, Return, Routine, Hold, Unhold}
+use Rattle.rv_isa.specs.declared.asm.Action.TheVariants.{Compute, Label, Jump, Branch, Call, TailCall, Return, Routine, Hold, Unhold, Room}
 use Rattle.rv_isa.specs.declared.asm.Operation.{Operation}
 use Rattle.rv_isa.specs.declared.asm.Operation.TheVariants.{Li, Lw, Sw, Dup, Free}
 use Rattle.rv_isa.specs.declared.placed.Place.{Place}
@@ -80,6 +80,7 @@ takes_at Return n place = is_in (argument n) place
 takes_at (Routine routine) n place = is_in_any (slice_get (taken_by routine) n) place
 takes_at Hold n place = cond (n == 0) (is_slot place) (is_register place)
 takes_at Unhold n place = is_slot place
+takes_at Room n place = false
 
 abbrev pub computes_at : Operation → Place → Bool
 computes_at (Sw offset) place = false

@@ -1,7 +1,7 @@
 -- The most instructions that each action takes once it is placed.
 use Rattle.std.specs.Prelude.{ℕ, ◌+◌, ◌*◌, List, [], ◌∷◌, Option, Some, None, length}
 use Rattle.rv_isa.specs.declared.asm.Action.{Action}
-use Rattle.rv_isa.specs.declared.asm.Action.TheVariants.{Compute, Label, Jump, Branch, Call, TailCall, Return, Routine, Hold, Unhold}
+use Rattle.rv_isa.specs.declared.asm.Action.TheVariants.{Compute, Label, Jump, Branch, Call, TailCall, Return, Routine, Hold, Unhold, Room}
 use Rattle.rv_isa.specs.declared.asm.Operation.{Operation}
 use Rattle.rv_isa.specs.declared.asm.Operation.TheVariants.{Li, La, Dup, Free}
 use Rattle.rv_isa.specs.declared.routine.Routine.{Routine as Called}
@@ -30,10 +30,11 @@ routine_instructions m (Routine routine) (Some words) held shared = m.lasts rout
 routine_instructions m _ _ held shared = 0
 
 -- A far jump is two instructions, and a branch to a far label one over a jump. A call has its callee's entry: it compares the
--- newest frame with the end of the cells, takes a frame and saves the return address. A return loads it and gives the frame back; a
--- large frame is taken and given back in two parts. Where one of two functions takes no frame, a tail call from one to the other takes
--- or gives back that of the other one. A token in a register is put on the held chain; one that is taken off is
--- loaded from its slot first. An action is as many instructions where it is written, but for a tail call and a drop.
+-- newest frame with the end of the cells, takes a frame and saves the return address. A Room only compares so, and branches over a jump. A
+-- return loads the address and gives the frame back; a large frame is taken and given back in two parts. Where one of two functions takes
+-- no frame, a tail call from one to the other takes or gives back that of the other one. A token in a register is put on the held chain;
+-- one that is taken off is loaded from its slot first. An action is as many instructions where it is written, but for a tail call and a
+-- drop.
 abbrev pub action_instructions : Action → ℕ
 action_instructions (Compute operation) = operation_instructions operation
 action_instructions (Label l) = 0
@@ -45,6 +46,7 @@ action_instructions Return = 4
 action_instructions (Routine routine) = 2
 action_instructions Hold = 5
 action_instructions Unhold = 3
+action_instructions Room = 4
 
 abbrev pub instructions_of : {H E W : Type 0} → Primitives H E W → Action → Option (List ℕ) → Option ℕ → H → ℕ
 instructions_of m action words held shared = action_instructions action + routine_instructions m action words held shared

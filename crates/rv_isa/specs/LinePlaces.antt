@@ -1,8 +1,9 @@
 -- Where a machine of assembler code or of placed code is in its program: in a function, behind so many of its lines.
 use Rattle.std.specs.Prelude.{◌≡◌, ◌==◌, ℕ, Bool, true, false, ◌&&◌, not, List, ◌∷◌, Some, is_none, drop, length, slice_get}
 use Rattle.rv_isa.specs.declared.asm.Action.{Action}
-use Rattle.rv_isa.specs.declared.asm.Action.TheVariants.{Compute, Label, Branch}
-use Rattle.rv_isa.specs.declared.asm.Operation.TheVariants.{Mv, Lw}
+use Rattle.rv_isa.specs.declared.asm.Action.TheVariants.{Compute, Label, Branch, Return}
+use Rattle.rv_isa.specs.declared.asm.Operation.{Operation}
+use Rattle.rv_isa.specs.declared.asm.Operation.TheVariants.{Mv, Lw, Sw, Dup, Free}
 use Rattle.rv_isa.specs.AsmCode.{Line, Lines}
 use Rattle.rv_isa.specs.Conventions.{home}
 use Rattle.rv_isa.specs.AsmMachine.{AsmTurn}
@@ -62,10 +63,22 @@ abbrev pub is_test : Action → ℕ → Bool
 is_test (Branch condition l) count = not (count == 1)
 is_test _ count = false
 
--- Where the test of a loop stands again at the loop's end, no turn but the first comes to the test at its head. So a line that each
--- turn comes to is an instruction always, with so many arguments, and no test.
+-- an operation that does more than compute a value
+abbrev pub has_effect : Operation → Bool
+has_effect (Sw offset) = true
+has_effect Dup = true
+has_effect Free = true
+has_effect _ = false
+
+-- An own line, by its action and the number of its arguments: it does more than compute a value or give one back, since code that only
+-- does so may stand where a call of it was; and it is no test, since no turn of a loop but the first comes to the test at its head, where
+-- that stands again at the loop's end.
 abbrev pub is_own : Action → ℕ → Bool
-is_own action count = not (is_test action count) && is_always_some action
+is_own (Compute operation) count = has_effect operation
+is_own (Label l) count = false
+is_own (Branch condition l) count = count == 1
+is_own Return count = false
+is_own _ count = true
 
 abbrev pub is_own_line : PlacedLine → Bool
 is_own_line (does alive action args into) = is_own action (length args)
@@ -86,7 +99,7 @@ PlacedHasLine functions f k =
     (lines : PlacedLines) × ((slice_get functions f ≡ Some lines)
     × ((line : PlacedLine) × ((slice_get lines.code k ≡ Some line) × (is_instruction line ≡ true))))
 
--- or is such an action and no test
+-- or is an own line
 abbrev pub AsmHasOwnLine : List Lines → ℕ → ℕ → Type 0
 AsmHasOwnLine functions f k =
     (lines : Lines) × ((slice_get functions f ≡ Some lines)

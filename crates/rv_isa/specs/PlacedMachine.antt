@@ -2,7 +2,7 @@
 use Rattle.std.specs.Prelude.{ℕ, suc, List, [], ◌∷◌, Option, Some, None, Bool, false, cond, map, length, drop, nat_le, slice_get}
 use Rattle.kk_base.specs.Machines.{Machine, weighing}
 use Rattle.rv_isa.specs.declared.asm.Action.{Action}
-use Rattle.rv_isa.specs.declared.asm.Action.TheVariants.{Compute, Label, Jump, Branch, Call, TailCall, Return, Routine, Hold, Unhold}
+use Rattle.rv_isa.specs.declared.asm.Action.TheVariants.{Compute, Label, Jump, Branch, Call, TailCall, Return, Routine, Hold, Unhold, Room}
 use Rattle.rv_isa.specs.declared.placed.Place.{Place}
 use Rattle.rv_isa.specs.declared.placed.Place.TheVariants.{Register as register, Slot as slot}
 use Rattle.rv_isa.specs.declared.placed.Operand.{Operand}
@@ -109,7 +109,7 @@ placed_served into frames registers (answers word shared took_held) = or_stuck (
 placed_served into frames registers (ends how shared) = ended how shared
 placed_served into frames registers fails = stuck
 
--- What an action does with the words of its arguments. A call finds the stack full where `depth` frames stand.
+-- What an action does with the words of its arguments. A call and a Room find the stack full where `depth` frames stand.
 abbrev pub placed_acts : {H E W : Type 0} → Primitives H E W → ℕ → List PlacedLines → Frame PlacedLine → List (Frame PlacedLine) → (ℕ → Option ℕ) → H → Action → List Operand → Option Operand → List ℕ → PlacedTurn H W
 placed_acts m depth q f fs registers shared (Compute operation) args into words =
     or_stuck (m.compute operation words shared) (λ r. placed_gives (unless_lost (Compute operation) into) r.0 f fs registers r.1)
@@ -132,6 +132,8 @@ placed_acts m depth q f fs registers shared Hold args into words =
 placed_acts m depth q f fs registers shared Unhold args into words =
     or_stuck (only_slot args) (λ k. or_stuck (only_of words) (λ word. or_stuck (unholding k word f.held) (λ held.
     or_stuck (by_token m.unhold word shared) (λ next. placed_gives into word (record f { held = held }) fs (kept_by Unhold registers) next))))
+placed_acts m depth q f fs registers shared Room args into words =
+    cond (nat_le depth (length (f ∷ fs))) (ended m.stack_full shared) (placed_goes f fs registers shared)
 
 -- whether a place is the slot of a held token
 abbrev pub is_held : List ℕ → Place → Bool

@@ -3,7 +3,7 @@ use Rattle.std.specs.Prelude.{◌≡◌, ◌==◌, ◌||◌, ◌&&◌, ◌+◌, 
 use Rattle.kk_base.specs.Limits.{greatest_of}
 use Rattle.kk_base.specs.declared.limit.LimitKind.TheVariants.{Parameters}
 use Rattle.rv_isa.specs.declared.asm.Action.{Action}
-use Rattle.rv_isa.specs.declared.asm.Action.TheVariants.{Compute, Label, Jump, Branch, Call, TailCall, Return, Routine, Hold, Unhold}
+use Rattle.rv_isa.specs.declared.asm.Action.TheVariants.{Compute, Label, Jump, Branch, Call, TailCall, Return, Routine, Hold, Unhold, Room}
 use Rattle.rv_isa.specs.declared.asm.Operation.TheVariants.{Sw, Dup, Free}
 use Rattle.rv_isa.specs.declared.routine.Routine.TheVariants.{Drop}
 use Rattle.rv_isa.specs.AsmCode.{Line, Lines}
@@ -68,6 +68,7 @@ most_args Return = 1
 most_args (Routine routine) = length (taken_by routine)
 most_args Hold = 2
 most_args Unhold = 1
+most_args Room = 0
 
 -- whether the action gives a value
 abbrev pub has_value : Option ℕ → Bool

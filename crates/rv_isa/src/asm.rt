@@ -56,6 +56,8 @@ pub enum Action {
     Hold,
     /// Takes the argument off the chain of held tokens again, unless it is the null token, and gives it.
     Unhold,
+    /// Ends the run with the stack full where there is no room for one more frame, as a call does. It reads and writes nothing.
+    Room,
 }
 
 /// When a branch is taken, by the names of the instructions.

@@ -4,7 +4,7 @@ use Rattle.std.proofs.Common.{refl, ap, arith}
 use Rattle.std.specs.List.{AllByRecursion}
 use Rattle.rv_isa.specs.declared.asm.Action.{Action}
 use Rattle.rv_isa.specs.declared.asm.Action.TheVariants.{Compute, Label, Jump, Branch, Call, TailCall, Return, Routine, Hold}
-use Rattle.rv_isa.specs.declared.asm.Action.TheVariants.{Unhold}
+use Rattle.rv_isa.specs.declared.asm.Action.TheVariants.{Unhold, Room}
 use Rattle.rv_isa.specs.declared.asm.Operation.{Operation}
 use Rattle.rv_isa.specs.declared.asm.Operation.TheVariants.{Register, Immediate, Shift, Li, Mv, La, Lw, Sw, Dup, Free}
 use Rattle.rv_isa.specs.Costs.{operation_instructions, action_length, tail_call_length, placed_line_length, placed_code_length}
@@ -38,6 +38,7 @@ action_most Return straight = cc straight
 action_most (Routine routine) straight = cc straight
 action_most Hold straight = cc straight
 action_most Unhold straight = cc straight
+action_most Room straight = cc straight
 
 line_most : (line : PlacedLine) → is_straight line ≡ true → placed_line_length line ≤ 2
 line_most (does alive action args into) straight = action_most action straight
@@ -64,6 +65,7 @@ call_action f Return is = cc is
 call_action f (Routine routine) is = cc is
 call_action f Hold is = cc is
 call_action f Unhold is = cc is
+call_action f Room is = cc is
 
 call_length : (f : ℕ) (line : PlacedLine) → is_call_of f line ≡ true → placed_line_length line ≡ tail_call_length
 call_length f (does alive action args into) is = call_action f action is

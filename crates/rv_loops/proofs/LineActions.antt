@@ -3,7 +3,7 @@ use Rattle.std.proofs.Common.{◌≡◌, ◌==◌, ℕ, suc, List, [], ◌∷◌
 use Rattle.std.proofs.Common.{nat_le, length, slice_get, refl, sym, ap, ◌∙◌, subst, option_map}
 use Rattle.rv_isa.specs.declared.asm.Action.{Action}
 use Rattle.rv_isa.specs.declared.asm.Action.TheVariants.{Compute, Label, Jump, Branch, Call, TailCall, Return, Routine, Hold}
-use Rattle.rv_isa.specs.declared.asm.Action.TheVariants.{Unhold}
+use Rattle.rv_isa.specs.declared.asm.Action.TheVariants.{Unhold, Room}
 use Rattle.rv_isa.specs.declared.asm.Operation.{Operation}
 use Rattle.rv_isa.specs.declared.placed.Operand.{Operand}
 use Rattle.rv_isa.specs.declared.placed.Place.{Place}
@@ -304,6 +304,17 @@ module _ {H E W : Type 0} (m : Primitives H E W) (depth : ℕ) (q q' : List Plac
               (λ x word is_word. is_word))),
         ))
 
+    -- a test of room
+    has_room : StandsFor q q' IsAtSame (cond (nat_le depth (length (on ∷ fs))) (ended m.stack_full shared) (placed_goes on fs known shared))
+        (cond (nat_le depth (length (on' ∷ gs))) (ended m.stack_full shared) (placed_goes on' gs known' shared))
+    has_room =
+        let full : PlacedTurn H W = ended m.stack_full shared in
+        let next : PlacedTurn H W = placed_goes on fs known shared in
+        let next' : PlacedTurn H W = placed_goes on' gs known' shared in
+        subst (λ (n : ℕ). StandsFor q q' IsAtSame (cond (nat_le depth (length (on ∷ fs))) full next)
+        (cond (nat_le depth n) full next')) (sym (ap suc (wait_length q q' fs gs wait)))
+        (cond_go q q' IsAtSame (nat_le depth (length (on ∷ fs))) full next full next' (refl, refl) (stays known known' shared more))
+
     -- a tail call
     ends_in : (callee : ℕ) (args : List Operand) (into : Option Operand) (words : List ℕ)
         → StandsFor q q' IsAtSame (placed_acts m depth q on fs known shared (TailCall callee) args into words)
@@ -472,3 +483,4 @@ module _ {H E W : Type 0} (m : Primitives H E W) (depth : ℕ) (q q' : List Plac
         (kept_knows (Routine routine) known known' more))
     acts Hold args into words is = holds_both args into words is
     acts Unhold args into words is = unholds_both args into words
+    acts Room args into words is = has_room

@@ -1,6 +1,6 @@
 -- Where the machine of the code comes to a line of its own, so does that of the rotated code.
 use Rattle.std.proofs.Common.{◌≡◌, ◌≢◌, ◌<◌, ◌⊎◌, inl, inr, ℕ, zero, suc, ◌+◌, List, [], ◌∷◌, ◌++◌}
-use Rattle.std.proofs.Common.{Option, Some, Bool, true, false, cond, ◌&&◌}
+use Rattle.std.proofs.Common.{Option, Some, Bool, true, false, cond}
 use Rattle.std.proofs.Common.{length, drop, slice_get, refl, sym, ap, ◌∙◌, subst, arith}
 use Rattle.std.specs.Prelude.{◌==◌, not}
 use Rattle.std.proofs.lemmas.Bool.{and_parts, eq-eqb, ne_eqb, false≢true, cases_lt}
@@ -10,13 +10,14 @@ use Rattle.kk_base.proofs.Machines.{state-add, trace-add}
 use Rattle.kk_base.proofs.Simulations.{simulates_many}
 use Rattle.rv_isa.specs.declared.asm.Action.{Action}
 use Rattle.rv_isa.specs.declared.asm.Action.TheVariants.{Compute, Label, Jump, Branch, Call, TailCall, Return, Routine, Hold}
-use Rattle.rv_isa.specs.declared.asm.Action.TheVariants.{Unhold}
+use Rattle.rv_isa.specs.declared.asm.Action.TheVariants.{Unhold, Room}
 use Rattle.rv_isa.specs.Frames.{Frame}
-use Rattle.rv_isa.specs.LinePlaces.{is_made, is_load, is_always_some, is_test, is_own, is_own_line, is_instruction, IsBehindLines, IsAtFrame}
+use Rattle.rv_isa.specs.LinePlaces.{is_made, is_load, is_always_some, is_own_line, is_instruction, IsBehindLines, IsAtFrame}
 use Rattle.rv_isa.specs.LinePlaces.{PlacedIsAt, PlacedHasLine, PlacedHasOwnLine}
 use Rattle.rv_isa.specs.PlacedCode.{PlacedLine, does, moves, PlacedLines}
 use Rattle.rv_isa.specs.PlacedMachine.{PlacedState, PlacedTurn, placed_machine, placed_start}
 use Rattle.rv_isa.specs.Primitives.{Primitives, go, ended, stuck}
+use Rattle.rv_isa.proofs.OwnActions.{own_is_some}
 use Rattle.rv_loops.specs.Rotation.{HasOpposites, ComputesAlone, Loop, is_straight_action, is_straight, AreStraight, is_call_of}
 use Rattle.rv_loops.specs.Rotation.{test, mark, goes_on, leaves, rotated_line, rotated_lines, code_of, rotated_code, IsRotated}
 use Rattle.rv_loops.specs.Rotation.{AreRotated}
@@ -45,20 +46,20 @@ some_not_straight Return some = refl
 some_not_straight (Routine routine) some = refl
 some_not_straight Hold some = refl
 some_not_straight Unhold some = refl
+some_not_straight Room some = refl
 
 own_not_straight : (line : PlacedLine) → is_own_line line ≡ true → is_straight line ≡ false
 own_not_straight (does alive action args into) own =
-    some_not_straight action (and_parts (not (is_test action (length args))) (is_always_some action) own).1
+    some_not_straight action (own_is_some action (length args) own)
 own_not_straight (moves alive value way) own = cc own
 
 own_not_test : (loop : Loop) (line : PlacedLine) → length loop.args ≢ 1 → is_own_line line ≡ true → line ≢ test loop
 own_not_test loop line compares own same =
     let one : (length loop.args == 1) ≡ false = ne_eqb (length loop.args) 1 compares in
-    false≢true (ap (λ (one : Bool). not (not one) && true) (sym one) ∙ ap is_own_line (sym same) ∙ own)
+    false≢true (sym one ∙ ap is_own_line (sym same) ∙ own)
 
 own_is_instruction : (line : PlacedLine) → is_own_line line ≡ true → is_instruction line ≡ true
-own_is_instruction (does alive action args into) own =
-    (and_parts (not (is_test action (length args))) (is_always_some action) own).1
+own_is_instruction (does alive action args into) own = own_is_some action (length args) own
 own_is_instruction (moves alive value way) own = cc own
 
 -- such a line does not stand before the test

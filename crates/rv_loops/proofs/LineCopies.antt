@@ -5,7 +5,7 @@ use Rattle.std.proofs.Math.Seq.{drop-length}
 use Rattle.kk_base.specs.Machines.{trace, state}
 use Rattle.rv_isa.specs.declared.asm.Action.{Action}
 use Rattle.rv_isa.specs.declared.asm.Action.TheVariants.{Compute, Label, Jump, Branch, Call, TailCall, Return, Routine, Hold}
-use Rattle.rv_isa.specs.declared.asm.Action.TheVariants.{Unhold}
+use Rattle.rv_isa.specs.declared.asm.Action.TheVariants.{Unhold, Room}
 use Rattle.rv_isa.specs.declared.placed.Operand.{Operand}
 use Rattle.rv_isa.specs.Conventions.{conforms}
 use Rattle.rv_isa.specs.Frames.{Frame, all_of}
@@ -67,6 +67,7 @@ module _ {H E W : Type 0} (m : Primitives H E W) (alone : ComputesAlone m) (dept
     acts_next (Routine routine) args into words straight good = cc straight
     acts_next Hold args into words straight good = cc straight
     acts_next Unhold args into words straight good = cc straight
+    acts_next Room args into words straight good = cc straight
 
     -- a line that goes straight on leads to what stands behind it
     straight_next : (line : PlacedLine) → is_straight line ≡ true → placed_line m depth q g gs known shared (line ∷ rest) ≢ stuck

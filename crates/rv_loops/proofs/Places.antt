@@ -6,7 +6,7 @@ use Rattle.std.proofs.lemmas.Bool.{eqb-true, eq-eqb}
 use Rattle.std.proofs.lemmas.List.{append_assoc}
 use Rattle.rv_isa.specs.declared.asm.Action.{Action}
 use Rattle.rv_isa.specs.declared.asm.Action.TheVariants.{Compute, Label, Jump, Branch, Call, TailCall, Return, Routine, Hold}
-use Rattle.rv_isa.specs.declared.asm.Action.TheVariants.{Unhold}
+use Rattle.rv_isa.specs.declared.asm.Action.TheVariants.{Unhold, Room}
 use Rattle.rv_isa.specs.AsmMachine.{is_label}
 use Rattle.rv_isa.specs.Frames.{found}
 use Rattle.rv_isa.specs.PlacedCode.{PlacedLine, does, moves, PlacedLines}
@@ -30,6 +30,7 @@ call_no_label l f Return is = cc is
 call_no_label l f (Routine routine) is = cc is
 call_no_label l f Hold is = cc is
 call_no_label l f Unhold is = cc is
+call_no_label l f Room is = cc is
 
 line_no_label : (l f : ℕ) (line : PlacedLine) → is_call_of f line ≡ true → is_label_line l line ≡ false
 line_no_label l f (does alive action args into) is = call_no_label l f action is

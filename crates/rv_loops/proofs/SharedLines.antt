@@ -3,7 +3,7 @@ use Rattle.std.proofs.Common.{◌≡◌, ◌≢◌, ℕ, List, ◌∷◌, Option
 use Rattle.std.proofs.Common.{true, false, cond, map, refl, sym, ap, ◌∙◌, subst}
 use Rattle.rv_isa.specs.declared.asm.Action.{Action}
 use Rattle.rv_isa.specs.declared.asm.Action.TheVariants.{Compute, Label, Jump, Branch, Call, TailCall, Return, Routine, Hold}
-use Rattle.rv_isa.specs.declared.asm.Action.TheVariants.{Unhold}
+use Rattle.rv_isa.specs.declared.asm.Action.TheVariants.{Unhold, Room}
 use Rattle.rv_isa.specs.declared.placed.Listed.{Listed}
 use Rattle.rv_isa.specs.declared.placed.Operand.{Operand}
 use Rattle.rv_isa.specs.declared.placed.Place.{Place}
@@ -111,6 +111,7 @@ module _ {H E W : Type 0} (m : Primitives H E W) (depth : ℕ) (q q' : List Plac
       by (Routine routine) is words known_are = cc is
       by Hold is words known_are = cc is
       by Unhold is words known_are = cc is
+      by Room is words known_are = cc is
 
   -- any line leads to the same line of both again
   pub line_goes : (f g : Frame PlacedLine) (fs gs : List (Frame PlacedLine)) (known known' : ℕ → Option ℕ) (shared : H)

@@ -8,7 +8,7 @@ use Rattle.kk_base.specs.Simulations.{Reaches, Simulates}
 use Rattle.kk_base.proofs.Simulations.{ended_reaches}
 use Rattle.rv_isa.specs.declared.asm.Action.{Action}
 use Rattle.rv_isa.specs.declared.asm.Action.TheVariants.{Compute, Label, Jump, Branch, Call, TailCall, Return, Routine, Hold}
-use Rattle.rv_isa.specs.declared.asm.Action.TheVariants.{Unhold}
+use Rattle.rv_isa.specs.declared.asm.Action.TheVariants.{Unhold, Room}
 use Rattle.rv_isa.specs.declared.asm.Condition.{Condition}
 use Rattle.rv_isa.specs.declared.placed.Listed.{Listed}
 use Rattle.rv_isa.specs.declared.placed.Operand.{Operand}
@@ -385,6 +385,7 @@ module _ {H E W : Type 0} (m : Primitives H E W) (opposes : HasOpposites m) (dep
     calls_itself credit idle is alive args into rest (Routine routine) at own at' some = cc own
     calls_itself credit idle is alive args into rest Hold at own at' some = cc own
     calls_itself credit idle is alive args into rest Unhold at own at' some = cc own
+    calls_itself credit idle is alive args into rest Room at own at' some = cc own
 
     -- behind the test
     at_line : (credit idle : ℕ) (is : IsRotated f.function f.whole g.whole) (line : PlacedLine) (rest : List PlacedLine)

@@ -31,9 +31,9 @@ pub trait Execution {
 /// Its machine simulates that of the code, and weighs no more on the whole. From the start of the first function on both tell the
 /// same events and end alike. A run of the code must never come to a state in which it can do nothing more; then one of the rotated
 /// code comes to none either. For each state of the one that goes on the other comes to one that has told the same and shares the
-/// same, and whose frames stand for those of that state, with their values and what they hold. Each line of the code that is always
-/// an instruction and no test has a line of its own in the rotated code, which is an instruction. Where the one is at such a line,
-/// the other comes to that, with the same told and shared. It is a law, and does nothing.
+/// same, and whose frames stand for those of that state, with their values and what they hold. Each own line of the code, which does
+/// more than compute a value or give one back, and is no test, has a line of its own in the rotated code, which is an instruction.
+/// Where the one is at such a line, the other comes to that, with the same told and shared. It is a law, and does nothing.
 pub fn rotated_code_keeps_meaning<M: Execution>()
     ensures simulates { (q q' : List PlacedLines) (depth : ℕ) → AreRotated 0 q q'
         → Simulates (placed_machine M.primitives depth q) (placed_machine M.primitives depth q')

@@ -1,7 +1,7 @@
 -- A label is found where it stands.
 use Rattle.std.proofs.Common.{◌≡◌, ℕ, List, [], ◌∷◌, ◌++◌, Option, Some, None, Bool, true, false, cond, refl, ap, subst, eqb-true, eq-eqb}
 use Rattle.rv_isa.specs.declared.asm.Action.{Action}
-use Rattle.rv_isa.specs.declared.asm.Action.TheVariants.{Compute, Label, Jump, Branch, Call, TailCall, Return, Routine, Hold, Unhold}
+use Rattle.rv_isa.specs.declared.asm.Action.TheVariants.{Compute, Label, Jump, Branch, Call, TailCall, Return, Routine, Hold, Unhold, Room}
 use Rattle.rv_isa.specs.AsmCode.{Line}
 use Rattle.rv_isa.specs.AsmMachine.{is_label}
 use Rattle.rv_isa.specs.Frames.{found}
@@ -22,6 +22,7 @@ none_behind l Return rest is ahead = cc is
 none_behind l (Routine routine) rest is ahead = cc is
 none_behind l Hold rest is ahead = cc is
 none_behind l Unhold rest is ahead = cc is
+none_behind l Room rest is ahead = cc is
 
 one_on : (test : Bool) (line : Line) (rest : List Line) (later : Option (List Line)) (code : List Line) → later ≡ Some code → (test ≡ true → later ≡ None) → cond test (Some (line ∷ rest)) later ≡ Some code
 one_on true line rest later code is none = cc (is, none refl)

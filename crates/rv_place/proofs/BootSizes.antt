@@ -5,7 +5,7 @@ use Rattle.kk_base.specs.Sizes.{greatest_depth}
 use Rattle.elf_image.specs.Program.{page_size}
 use Rattle.elf_image.specs.Program.{text_start, memory_start}
 use Rattle.rv_isa.specs.declared.asm.Action.{Action}
-use Rattle.rv_isa.specs.declared.asm.Action.TheVariants.{Compute, Label, Jump, Branch, Call, TailCall, Return, Routine, Hold, Unhold}
+use Rattle.rv_isa.specs.declared.asm.Action.TheVariants.{Compute, Label, Jump, Branch, Call, TailCall, Return, Routine, Hold, Unhold, Room}
 use Rattle.rv_isa.specs.declared.placed.Operand.{Operand}
 use Rattle.rv_isa.specs.declared.placed.Placed.{Placed}
 use Rattle.rv_isa.specs.Costs.{action_length, placed_line_length, placed_code_length, placed_functions_length}
@@ -40,6 +40,7 @@ action_most forms Return args = return_most forms.frame forms.jumps
 action_most forms (Routine routine) args = routine_most forms.jumps routine
 action_most forms Hold args = omega (arith, name_most (is_at_pointer forms.jumps args))
 action_most forms Unhold args = omega arith
+action_most forms Room args = omega (arith, jump_most forms.jumps, to_frame_most forms.jumps)
 
 none_or : (silent : Bool) (words most : ℕ) → words ≤ most → cond silent 0 words ≤ most
 none_or true words most few = omega arith

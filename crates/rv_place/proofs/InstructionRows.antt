@@ -17,12 +17,13 @@ use Rattle.rv_isa.specs.Processor.{Processor, value, can_load, can_store}
 use Rattle.rv_isa.specs.Standing.{Code, Stands}
 use Rattle.rv_isa.specs.Opposites.{opposite}
 use Rattle.cell_runtime.specs.Operations.{compares}
+use Rattle.cell_runtime.specs.Registers.{IsOutside}
 use Rattle.rv_place.specs.Registers.{zero_register, ra, sp, t0, s3}
 use Rattle.rv_place.specs.Addresses.{words_of_shift, words_to_frame, entry_words, frame_bias, way_offset}
 use Rattle.rv_place.specs.Instructions.{branch_instruction, LoadsWord, words_of_jump, JumpsFar, JumpsBy, words_of_branch, BranchesFar, BranchesOn}
 use Rattle.rv_place.specs.declared.reach.Reach.{Reach}
 use Rattle.rv_place.specs.declared.reach.Reach.TheVariants.{Near, Far, Wide}
-use Rattle.rv_place.specs.Lines.{Map, IsFromPointer, ShiftsStack, IsSymbolAt, GoesBack, ReturnsFrom, frame_register, FindsFrame, EntersAt, PassesAt, BeginsAt}
+use Rattle.rv_place.specs.Lines.{Map, IsFromPointer, ShiftsStack, IsSymbolAt, GoesBack, ReturnsFrom, frame_register, FindsFrame, TestsRoom, EntersAt, PassesAt, BeginsAt}
 use Rattle.rv_place.proofs.InstructionExecution.{addi_row, lui_row, branch_effect, MissesFree, Done, Gets, Goes, misses_done, done_none, done_then, done_as, done_on, target_of, next_is, plain_gets, auipc_gets, load_gets, store_goes, jump_gets, branch_goes, opposite_compares, near_gets}
 
 -- instructions that leave a word in the stack pointer
@@ -50,6 +51,11 @@ pub record Leaves (cells : ℕ) (code : Code) (steps : ℕ) (base way next : ℕ
   pub done : Done cells code steps (1 ∷ 2 ∷ []) s.memory next s after
   pub base_is : value after.registers 2 ≡ base
   pub way_is : value after.registers 1 ≡ way
+
+-- a register that a test whether a frame is left may set
+pub record IsFree (free : Register) : Type 0 where
+  pub some : free.number ≢ 0
+  pub no_end : IsOutside 19 (free.number ∷ [])
 
 -- a frame is taken from the stack pointer
 shifted : (base frame bias : ℕ) → base + frame + bias < 2 ^ 32 → sum_word (base + frame + bias) (2 ^ 32 - frame) ≡ base + bias
@@ -236,51 +242,63 @@ module _ (cells : ℕ) {code : Code} (below : (at : ℕ) (i : Instr) → code at
         way_is = second.done.kept 1 ((λ e. cc), tt) ∙ first.value_is (λ e. cc);
       }
 
-  -- ---- entries
+  -- ---- tests whether a frame is left
 
   -- the address of the newest frame has come to its register
-  record Found (jumps : Reach) (at base : ℕ) (s : Processor) : Type 0 where
+  record Found (free : Register) (jumps : Reach) (at base : ℕ) (s : Processor) : Type 0 where
     after : Processor
-    done : Done cells code (words_to_frame jumps) (5 ∷ []) s.memory (at + 4 * words_to_frame jumps) s after
-    frame_is : value after.registers (frame_register jumps).number ≡ base
+    done : Done cells code (words_to_frame jumps) (free.number ∷ []) s.memory (at + 4 * words_to_frame jumps) s after
+    frame_is : value after.registers (frame_register jumps free).number ≡ base
 
-  found_at : {s : Processor} → Stands code s → (jumps : Reach) (at base : ℕ) → s.pc ≡ at → FindsFrame jumps code at → base < 2 ^ 32 → value s.registers 2 ≡ base + frame_bias jumps
-      → Found jumps at base s
-  found_at {s} stands Near at base pc_is finds fits base_is = record { after = s; done = done_none stands (pc_is ∙ stays_at at); frame_is = base_is ∙ stays_at' base }
-  found_at {s} stands Far at base pc_is finds fits base_is = record { after = s; done = done_none stands (pc_is ∙ stays_at at); frame_is = base_is ∙ stays_at' base }
-  found_at {s} stands Wide at base pc_is (down, down_is, here) fits base_is =
-      let gets = plain_gets cells below stands pc_is (addi_row t0 sp down) here in
+  found_at : {s : Processor} → Stands code s → (free : Register) → free.number ≢ 0 → (jumps : Reach) (at base : ℕ) → s.pc ≡ at → FindsFrame jumps free code at → base < 2 ^ 32
+      → value s.registers 2 ≡ base + frame_bias jumps → Found free jumps at base s
+  found_at {s} stands free some Near at base pc_is finds fits base_is = record { after = s; done = done_none stands (pc_is ∙ stays_at at); frame_is = base_is ∙ stays_at' base }
+  found_at {s} stands free some Far at base pc_is finds fits base_is = record { after = s; done = done_none stands (pc_is ∙ stays_at at); frame_is = base_is ∙ stays_at' base }
+  found_at {s} stands free some Wide at base pc_is (down, down_is, here) fits base_is =
+      let gets = plain_gets cells below stands pc_is (addi_row free sp down) here in
       let frame : sum_word (value s.registers 2) down.word ≡ base = rw (base_is, down_is) (omega arith) in
-      record { after = gets.after; done = gets.done; frame_is = gets.value_is (λ e. cc) ∙ frame }
+      record { after = gets.after; done = gets.done; frame_is = gets.value_is some ∙ frame }
 
-  module _ {s : Processor} (stands : Stands code s) (map : Map) (at : ℕ) (pc_is : s.pc ≡ at) (entry : EntersAt map code at) (full : ℕ) (full_at : IsSymbolAt map symbol.StackFull full)
+  module _ {s : Processor} (stands : Stands code s) (free : Register) (is_free : IsFree free) (map : Map) (at : ℕ) (pc_is : s.pc ≡ at) (tests : TestsRoom free map code at)
+      (full : ℕ) (full_at : IsSymbolAt map symbol.StackFull full)
       (base : ℕ) (base_is : value s.registers 2 ≡ base + frame_bias map.jumps) (fits : base + frame_bias map.jumps < 2 ^ 32) (end_is : value s.registers 19 ≡ map.bottom) where
-    found : Found map.jumps at base s
-    found = found_at stands map.jumps at base pc_is entry.finds (omega arith) base_is
+    found : Found free map.jumps at base s
+    found = found_at stands free is_free.some map.jumps at base pc_is tests.finds (omega arith) base_is
 
-    test_is : (test : Bool) → nat_eq base map.bottom ≡ test → compares Equal (value found.after.registers (frame_register map.jumps).number) (value found.after.registers 19) ≡ test
-    test_is test is = rw (found.frame_is, found.done.kept 19 ((λ e. cc), tt), end_is) is
+    test_is : (test : Bool) → nat_eq base map.bottom ≡ test → compares Equal (value found.after.registers (frame_register map.jumps free).number) (value found.after.registers 19) ≡ test
+    test_is test is = rw (found.frame_is, found.done.kept 19 is_free.no_end, end_is) is
 
     -- at the lowest frame the stack is full
-    pub entry_full : full % 4 ≡ 0 → base ≡ map.bottom → Goes cells code (words_to_frame map.jumps + words_of_branch map.jumps Far) (5 ∷ 1 ∷ 0 ∷ []) s.memory full s
-    entry_full aligned last =
+    pub room_full : full % 4 ≡ 0 → base ≡ map.bottom → Goes cells code (words_to_frame map.jumps + words_of_branch map.jumps Far) (free.number ∷ 1 ∷ 0 ∷ []) s.memory full s
+    room_full aligned last =
         let test : nat_eq base map.bottom ≡ true = grind (arith, nat_tests) in
-        let second = branch_taken found.done.stands (at + 4 * words_to_frame map.jumps) found.done.pc_is Equal (frame_register map.jumps) s3 full map.jumps Far (entry.full full full_at) aligned (test_is true test) in
+        let second = branch_taken found.done.stands (at + 4 * words_to_frame map.jumps) found.done.pc_is Equal (frame_register map.jumps free) s3 full map.jumps Far (tests.full full full_at) aligned (test_is true test) in
         record { after = second.after; done = done_on found.done second.done }
 
     -- else the test leads over the jump
-    entry_passes : base ≢ map.bottom → Goes cells code (words_to_frame map.jumps + 1) (5 ∷ []) s.memory (at + 4 * words_to_frame map.jumps + 4 + 4 * words_of_jump map.jumps) s
-    entry_passes more =
+    pub room_left : base ≢ map.bottom → Goes cells code (words_to_frame map.jumps + 1) (free.number ∷ []) s.memory (at + 4 * words_to_frame map.jumps + 4 + 4 * words_of_jump map.jumps) s
+    room_left more =
         let test : nat_eq base map.bottom ≡ false = grind (arith, nat_tests) in
-        let second = branch_passed found.done.stands (at + 4 * words_to_frame map.jumps) found.done.pc_is Equal (frame_register map.jumps) s3 full map.jumps Far (entry.full full full_at) (test_is false test) in
-        record { after = second.after; done = done_as {changed' = 5 ∷ []} (done_on found.done second.done) refl (omega arith) (λ x out. out) }
+        let second = branch_passed found.done.stands (at + 4 * words_to_frame map.jumps) found.done.pc_is Equal (frame_register map.jumps free) s3 full map.jumps Far (tests.full full full_at) (test_is false test) in
+        record { after = second.after; done = done_as {changed' = free.number ∷ []} (done_on found.done second.done) refl (omega arith) (λ x out. out) }
 
-    -- and a frame is taken
+  -- ---- entries
+
+  module _ {s : Processor} (stands : Stands code s) (map : Map) (at : ℕ) (pc_is : s.pc ≡ at) (entry : EntersAt map code at) (full : ℕ) (full_at : IsSymbolAt map symbol.StackFull full)
+      (base : ℕ) (base_is : value s.registers 2 ≡ base + frame_bias map.jumps) (fits : base + frame_bias map.jumps < 2 ^ 32) (end_is : value s.registers 19 ≡ map.bottom) where
+    t0_free : IsFree t0
+    t0_free = record { some = λ e. cc; no_end = ((λ e. cc), tt) }
+
+    -- at the lowest frame the stack is full
+    pub entry_full : full % 4 ≡ 0 → base ≡ map.bottom → Goes cells code (words_to_frame map.jumps + words_of_branch map.jumps Far) (5 ∷ 1 ∷ 0 ∷ []) s.memory full s
+    entry_full aligned last = room_full stands t0 t0_free map at pc_is entry.tests full full_at base base_is fits end_is aligned last
+
+    -- else a frame is taken
     pub entry_takes : (lower way : ℕ) → base ≡ lower + map.frame → value s.registers 1 ≡ way → base ≢ map.bottom → (lower + way_offset map.frame) % 4 ≡ 0 → can_store s.parts (lower + way_offset map.frame) 4 ≡ true
         → MissesFree cells s (lower + way_offset map.frame)
         → Shifts cells code (words_to_frame map.jumps + 1 + words_of_shift map.jumps + 1) (5 ∷ 2 ∷ []) (with_number (lower + way_offset map.frame) 4 way s.memory) (lower + frame_bias map.jumps) (at + 4 * entry_words map.jumps) s
     entry_takes lower way lower_is way_is more aligned allowed misses =
-        let tested = entry_passes more in
+        let tested = room_left stands t0 t0_free map at pc_is entry.tests full full_at base base_is fits end_is more in
         let old_base : value tested.after.registers 2 ≡ lower + map.frame + frame_bias map.jumps =
         tested.done.kept 2 ((λ e. cc), tt) ∙ base_is ∙ ap (λ b. b + frame_bias map.jumps) lower_is in
         let moved = frame_takes tested.done.stands map (at + 4 * words_to_frame map.jumps + 4 + 4 * words_of_jump map.jumps) tested.done.pc_is

@@ -1,7 +1,7 @@
 -- Jumps, branches, calls and returns of the machine of the placed form, followed by the processor.
 use Rattle.std.proofs.Common.{◌≡◌, ◌≢◌, ◌≤◌, ◌<◌, ◌⊎◌, inl, inr, ℕ, zero, suc, add-zero, ◌+◌, ◌-◌, ◌%◌, ◌^◌, List, [], ◌∷◌, length, Option, Some, None, Bool, true, false, cond, map, nat_le, slice_get, IsSome, refl, sym, ap, ◌∙◌, subst, arith, ◌*◌}
 use Rattle.std.specs.List.{list_any}
-use Rattle.std.proofs.lemmas.Bool.{and_parts, eqb-true}
+use Rattle.std.proofs.lemmas.Bool.{and_parts, eqb-true, false≢true}
 use Rattle.std.proofs.lemmas.Bool.Decides.{nat_tests}
 use Rattle.kk_base.specs.Memory.{Part}
 use Rattle.rv_isa.specs.declared.register.Register.{Register}
@@ -32,18 +32,18 @@ use Rattle.cell_runtime.specs.Registers.{IsOutside}
 use Rattle.cell_runtime.specs.Operations.{holds}
 use Rattle.cell_heap.specs.Pool.{Pool}
 use Rattle.cell_runtime.specs.World.{World, primitives}
-use Rattle.rv_place.specs.Registers.{zero_register, ra, s3}
+use Rattle.rv_place.specs.Registers.{zero_register, ra, t0, s3}
 use Rattle.rv_place.specs.Addresses.{words_of_shift, words_of_lines, words_to_frame, label_address, takes_frame, frames_taken, entry_words, test_words, skipped_words, frame_bias, way_offset}
 use Rattle.rv_place.specs.Instructions.{words_of_jump, JumpsTo, CallsTo, words_of_branch, BranchesOn}
 use Rattle.rv_place.specs.declared.reach.Forms.{Forms}
 use Rattle.rv_place.specs.declared.reach.Reach.{Reach}
 use Rattle.rv_place.specs.declared.reach.Reach.TheVariants.{Near, Far, Wide}
-use Rattle.rv_place.specs.Lines.{Map, GoesBack, ReturnsFrom, ReturnsBy, BranchesTo, frame_register, FindsFrame, EntersAt, PassesAt, BeginsAt, FunctionAt, ActsAt, IsSymbolAt}
+use Rattle.rv_place.specs.Lines.{Map, GoesBack, ReturnsFrom, ReturnsBy, BranchesTo, frame_register, FindsFrame, TestsRoom, EntersAt, PassesAt, BeginsAt, FunctionAt, ActsAt, IsSymbolAt}
 use Rattle.rv_place.specs.Grounds.{Ground, stack_end}
 use Rattle.rv_place.specs.ProcessorStates.{AllPlain, most_lines, IsIn, AwaitsFirst, FramesAt, way_back, links_in, links_of, Agrees}
 use Rattle.rv_place.specs.ProcessorStates.{Running}
 use Rattle.rv_place.proofs.InstructionExecution.{MissesFree, Done, Goes, misses_done, done_then, done_as, done_on}
-use Rattle.rv_place.proofs.InstructionRows.{Shifts, jump_to, jump_last, branch_last, bare_sp, frame_takes, frame_leaves, begins_full, entry_takes, bare_passes, return_goes, goes_back}
+use Rattle.rv_place.proofs.InstructionRows.{IsFree, Shifts, jump_to, jump_last, branch_last, bare_sp, room_full, room_left, frame_takes, frame_leaves, begins_full, entry_takes, bare_passes, return_goes, goes_back}
 use Rattle.rv_place.proofs.OccupiedWords.{behind_misses}
 use Rattle.rv_place.proofs.PointerShifts.{to_frame_most}
 use Rattle.rv_place.proofs.FrameMemory.{known_put, agrees_put, frames_pushed, waits_as, runs_as, newest_waits}
@@ -174,9 +174,9 @@ module _ {map_of : Map} {pool : Pool} {functions : List PlacedLines} {depth buff
 -- an entry is at a word
 entry_word : (map : Map) {code : Code} (at : ℕ) {target : ℕ} {s : Processor} (takes : Bool) → Stands code s → BeginsAt takes map code at → IsSymbolAt map symbol.StackFull target → at % 4 ≡ 0
 entry_word map at false stands passes there = stands.aligned at _ passes.tests
-entry_word map {code} at {target} true stands entry there = by map.jumps entry.finds (entry.full target there)
+entry_word map {code} at {target} true stands entry there = by map.jumps entry.tests.finds (entry.tests.full target there)
   where
-    by : (jumps : Reach) → FindsFrame jumps code at → BranchesOn map.jumps Far code (at + 4 * words_to_frame jumps) Equal (frame_register jumps) s3 target → at % 4 ≡ 0
+    by : (jumps : Reach) → FindsFrame jumps t0 code at → BranchesOn map.jumps Far code (at + 4 * words_to_frame jumps) Equal (frame_register jumps t0) s3 target → at % 4 ≡ 0
     by Near finds (over, over_is, here, jump) = let word = stands.aligned (at + 4 * 0) _ here in omega arith
     by Far finds (over, over_is, here, jump) = let word = stands.aligned (at + 4 * 0) _ here in omega arith
     by Wide (down, down_is, here) branch = stands.aligned at _ here
@@ -371,7 +371,53 @@ module _ {map_of : Map} {pool : Pool} {functions : List PlacedLines} {depth buff
   end_kept : (u : Processor) → value u.registers 19 ≡ value s.registers 19 → value u.registers 19 ≡ map_of.bottom
   end_kept u same = same ∙ running.cells.memory.end ∙ ground.cells_below
 
-  -- ---- a call that finds no frame left
+  -- ---- where no frame is left
+
+  symbol_word : (target : ℕ) → IsSymbolAt map_of symbol.StackFull target → target % 4 ≡ 0
+  symbol_word target (before, behind, is) = let word = ground.runtime_word in omega arith
+
+  -- instructions that lead to the stop for a full stack
+  stack_full_comes : (most : ℕ) {n : ℕ} {changed : List ℕ} → Goes pool.cells code n changed s.memory ground.stack_full.0 s → list_any is_own changed ≡ false → n ≤ most
+      → Comes map_of pool functions depth stop code parts most old (ended (primitives map_of.constants pool).stack_full world) s
+  stack_full_comes most {n} goes none few =
+      let exits = ground.stack_full.2 goes.after (record { stands = stands_part ground.own_part goes.done.stands; pc_is = goes.done.pc_is }) in
+      comes_ended map_of pool functions depth stop code parts most old (primitives map_of.constants pool).stack_full world s (n + 3) (record { processor = exits.last; ending = exited 102 }) (exit_runs s goes.after goes.done.leads exits)
+      (passes_to_exit ground goes.done exits)
+      (refl, exits.trace ∙ (goes.done.trace_is ∙ running.trace), (links_of map_of running.base (f ∷ fs), cells_ended (cells_done running.cells (roots_done goes.done none) goes.done.memory_is) exits))
+      (omega arith) (omega (arith, few))
+
+  -- a test whether one is left
+  pub follow_room : takes_frame map_of.jumps f.whole ≡ true → forms.jumps ≡ map_of.jumps → TestsRoom ra map_of code s.pc
+      → ((next : ℕ) → s.pc + 4 * test_words forms.jumps ≡ next → next < 2 ^ 32 → IsIn map_of code (most_lines functions) next left_behind)
+      → Comes map_of pool functions depth stop code parts 4 old (cond (nat_le depth (length (f ∷ fs))) (ended (primitives map_of.constants pool).stack_full world) (placed_goes left_behind fs known world)) s
+  follow_room framed jumps_are tests is_behind = by (nat_le depth (length (f ∷ fs))) refl
+    where
+      free : IsFree ra
+      free = record { some = λ e. cc; no_end = ((λ e. cc), tt) }
+
+      fits : running.base + frame_bias map_of.jumps < 2 ^ 32
+      fits = let range = ground.in_range in let high = sp_high ground f fs known world s running in omega arith
+
+      by : (full : Bool) → nat_le depth (length (f ∷ fs)) ≡ full
+          → Comes map_of pool functions depth stop code parts 4 old (cond full (ended (primitives map_of.constants pool).stack_full world) (placed_goes left_behind fs known world)) s
+      by true test =
+          let full_at = ground.stack_full in
+          stack_full_comes 4
+          (room_full pool.cells ground.below running.rests.stands ra free map_of s.pc refl tests full_at.0 full_at.1 running.base (framed_base ground f fs known world s running framed) fits (end_kept s refl)
+          (symbol_word full_at.0 full_at.1) (sp_last ground f fs known world s running (is_full depth (length (f ∷ fs)) test))) refl (omega (arith, jump_most map_of.jumps, to_frame_most map_of.jumps))
+      by false test =
+          let full_at = ground.stack_full in
+          let some = ground.some_frame in
+          let low = sp_room ground f fs known world s running (has_room depth (length (f ∷ fs)) test) in
+          let behind : ℕ = s.pc + 4 * words_to_frame map_of.jumps + 4 + 4 * words_of_jump map_of.jumps in
+          let goes = room_left pool.cells ground.below running.rests.stands ra free map_of s.pc refl tests full_at.0 full_at.1 running.base (framed_base ground f fs known world s running framed) fits (end_kept s refl)
+          (λ e. omega (arith, e)) in
+          let last = branch_last pool.cells ground.below map_of.jumps Far (s.pc + 4 * words_to_frame map_of.jumps) Equal (frame_register map_of.jumps ra) s3 full_at.0 (tests.full full_at.0 full_at.1) in
+          let size : test_words forms.jumps ≡ test_words map_of.jumps = ap test_words jumps_are in
+          stays ground f fs known world s running 4 old goes.after rest known goes.done ((λ e. cc), tt) refl (λ bare. absurd (false≢true (sym bare ∙ framed)))
+          (is_behind behind (omega (arith, size)) (omega (arith, last))) (agrees_done s goes.after known goes.done (refl, tt) running.registers) (omega arith) (omega (arith, to_frame_most map_of.jumps))
+
+  -- a call that finds none
 
   full_comes : takes_frame map_of.jumps f.whole ≡ true → (g : ℕ) (callee : PlacedLines) (entry : ℕ) → FunctionAt map_of code entry callee → CallsTo forms.jumps code s.pc entry → depth ≤ length (f ∷ fs)
       → Comes map_of pool functions depth stop code parts 7 old (ended (primitives map_of.constants pool).stack_full world) s
@@ -385,15 +431,7 @@ module _ {map_of : Map} {pool : Pool} {functions : List PlacedLines} {depth buff
       let goes = begins_full pool.cells ground.below called.done.stands map_of entry called.done.pc_is (takes_frame map_of.jumps callee.code) (bare_near map_of.jumps callee.code) function.entry full_at.0 full_at.1 running.base
       (called.done.kept 2 ((λ e. cc), ((λ e. cc), tt)) ∙ framed_base ground f fs known world s running framed) (omega arith) (end_kept called.after (called.done.kept 19 ((λ e. cc), ((λ e. cc), tt))))
       (symbol_word full_at.0 full_at.1) last in
-      let done = done_then called.done goes.done in
-      let exits = full_at.2 goes.after (record { stands = stands_part ground.own_part done.stands; pc_is = done.pc_is }) in
-      comes_ended map_of pool functions depth stop code parts 7 old (primitives map_of.constants pool).stack_full world s (words_of_jump forms.jumps + (words_to_frame map_of.jumps + words_of_branch map_of.jumps Far) + 3) (record { processor = exits.last; ending = exited 102 }) (exit_runs s goes.after done.leads exits)
-      (passes_to_exit ground done exits)
-      (refl, exits.trace ∙ (done.trace_is ∙ running.trace), (links_of map_of running.base (f ∷ fs), cells_ended (cells_done running.cells (roots_done done refl) (done.memory_is ∙ called.done.memory_is)) exits))
-      (omega arith) (omega (arith, jump_most forms.jumps, jump_most map_of.jumps, to_frame_most map_of.jumps))
-    where
-      symbol_word : (target : ℕ) → IsSymbolAt map_of symbol.StackFull target → target % 4 ≡ 0
-      symbol_word target (before, behind, is) = let word = ground.runtime_word in omega arith
+      stack_full_comes 7 (record { after = goes.after; done = done_on called.done goes.done }) refl (omega (arith, jump_most forms.jumps, jump_most map_of.jumps, to_frame_most map_of.jumps))
 
   -- ---- a call that finds one
 

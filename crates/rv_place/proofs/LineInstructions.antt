@@ -10,7 +10,7 @@ use Rattle.rv_isa.specs.declared.asm.Condition.{Condition}
 use Rattle.rv_isa.specs.declared.asm.Condition.TheVariants.{Equal}
 use Rattle.rv_isa.specs.declared.asm.Operation.{Operation}
 use Rattle.rv_isa.specs.declared.asm.Action.{Action}
-use Rattle.rv_isa.specs.declared.asm.Action.TheVariants.{Compute, Jump, Branch, Call, TailCall, Return, Routine, Hold, Unhold}
+use Rattle.rv_isa.specs.declared.asm.Action.TheVariants.{Compute, Jump, Branch, Call, TailCall, Return, Routine, Hold, Unhold, Room}
 use Rattle.rv_isa.specs.declared.placed.Operand.{Operand}
 use Rattle.rv_isa.specs.declared.placed.Listed.{Listed}
 use Rattle.rv_isa.specs.declared.placed.Place.{Place}
@@ -23,17 +23,17 @@ use Rattle.rv_isa.specs.declared.routine.Routine as routine
 use Rattle.rv_isa.specs.PlacedCode.{PlacedLine, moves, PlacedLines}
 use Rattle.rv_isa.specs.Standing.{Code}
 use Rattle.rv_isa.proofs.RangeEquality.{same_register}
-use Rattle.rv_place.specs.Registers.{s3}
+use Rattle.rv_place.specs.Registers.{ra, s3}
 use Rattle.rv_place.specs.Instructions.{words_of_jump, JumpsTo, CallsTo, CallsRoutine, words_of_routine, BranchesOn, HoldsToken, words_to_hold, UnholdsToken, words_of_operation}
 use Rattle.rv_isa.specs.FrameSizes.{slots_of_place, slots_of_operands}
-use Rattle.rv_place.specs.Addresses.{branch_words, is_at_pointer, slot_offset, way_offset, words_of_shift, words_of_action, words_of_line, words_of_lines, forms_of, takes_frame, words_to_frame, entry_words, skipped_words, entries_from, words_of_function, words_of_functions}
-use Rattle.rv_place.specs.Lines.{Map, IsFromPointer, IsOffsetOf, token_into, OnToken, IsSymbolAt, frame_register, BeginsAt, LinesAt, FunctionsAt, BranchesTo}
+use Rattle.rv_place.specs.Addresses.{branch_words, is_at_pointer, slot_offset, way_offset, words_of_shift, words_of_action, words_of_line, words_of_lines, forms_of, takes_frame, words_to_frame, test_words, entry_words, skipped_words, entries_from, words_of_function, words_of_functions}
+use Rattle.rv_place.specs.Lines.{Map, IsFromPointer, IsOffsetOf, token_into, OnToken, IsSymbolAt, frame_register, TestsRoom, BeginsAt, LinesAt, FunctionsAt, BranchesTo}
 use Rattle.rv_place.specs.declared.reach.Forms.{Forms}
 use Rattle.rv_place.specs.declared.reach.Reach.{Reach}
 use Rattle.rv_place.specs.declared.reach.Reach.TheVariants.{Near, Far}
 use Rattle.rv_place.specs.declared.chart.Chart.{Chart}
 use Rattle.rv_place.specs.declared.labels.Labels.{Labels}
-use Rattle.rv_place.specs.Emitted.{Grew, TokenBy, Charts, JumpReaches, RoutineReaches, BranchReaches, IsInText, IsInFunction, AreSymbols, IsAddressOf, register_or_zero, ReturnBy, HasLabels, OperationBy, ActionBy, LineBy, LinesBy, MoveBy, EntryBy, FunctionBy, FunctionsBy}
+use Rattle.rv_place.specs.Emitted.{Grew, TokenBy, Charts, JumpReaches, RoutineReaches, BranchReaches, IsInText, IsInFunction, AreSymbols, IsAddressOf, register_or_zero, ReturnBy, HasLabels, OperationBy, ActionBy, LineBy, LinesBy, MoveBy, TestBy, EntryBy, FunctionBy, FunctionsBy}
 use Rattle.rv_place.proofs.Emissions.{grew_so, grew_then}
 use Rattle.rv_place.proofs.NearJumps.{short_function, jump_reaches, text_reaches, routine_reaches, label_reaches, branch_reaches, function_front, function_back, text_front, text_back}
 use Rattle.rv_place.proofs.JumpInstructions.{BranchGrew}
@@ -69,6 +69,10 @@ slot_from : {chart : Chart} {map : Map} → Charts chart map → (jumps : Reach)
 slot_from {chart} {map} charts jumps same args inside k slot_is offset offset_is =
     let room : slot_offset k + 4 ≤ way_offset chart.frame = omega (arith, token_slot args k slot_is, inside) in
     (subst (λ (j : Reach). IsFromPointer j (slot_offset k) offset) same offset_is, subst (λ f. slot_offset k + 4 ≤ way_offset f) charts.frame room)
+
+-- a test whether a frame is left, with a register of the same number
+pub test_on : {free other : Register} {map : Map} {code : Code} {at : ℕ} → free.number ≡ other.number → TestsRoom free map code at → TestsRoom other map code at
+test_on {free} {other} {map} {code} {at} same tests = subst (λ (r : Register). TestsRoom r map code at) (same_register free other same) tests
 
 module _ (chart : Chart) (labels : Labels) (from : ℕ) (args : List Operand) (into : Option Operand) where
   abbrev jumps : Reach
@@ -192,24 +196,35 @@ module _ (chart : Chart) (labels : Labels) (from : ℕ) (args : List Operand) (i
         (on_token (UnholdsToken token) code at charts within.jumps inside here))
         emitted)
 
--- the branch of an entry, to the stop for a full stack
-pub entry_branch : {chart : Chart} {map : Map} → Charts chart map → (code : Code) (at target from : ℕ) → at ≡ from → IsInText map at (entry_words map.jumps)
-    → {a b : Register} → a.number ≡ (frame_register chart.jumps).number → b.number ≡ 19 → IsSymbolAt map symbol.StackFull target
+    pub on_room : {free : Register} → action ≡ Room → labels.forms.jumps ≡ chart.jumps → free.number ≡ 1 → Grew (test_words chart.jumps) (TestBy chart from free) old new
+        → Acted old new action
+    on_room is same free_is emitted =
+        subst (Acted old new) (sym is)
+        (grew_so (ap test_words (sym same))
+        (λ code at here is_at map charts start whole has inside.
+        let within : IsInText map at (test_words labels.forms.jumps)
+        = record { word = inside.word; low = omega (arith, inside.low, inside.text.low); high = omega (arith, inside.high, inside.text.high) } in
+        test_on free_is (here is_at map charts (subst (λ (j : Reach). IsInText map at (test_words j)) inside.jumps within)))
+        emitted)
+
+-- the branch of a test whether a frame is left, to the stop for a full stack
+pub test_branch : {chart : Chart} {map : Map} → Charts chart map → (code : Code) (at target from : ℕ) (free : Register) → at ≡ from → IsInText map at (test_words map.jumps)
+    → {a b : Register} → a.number ≡ (frame_register chart.jumps free).number → b.number ≡ 19 → IsSymbolAt map symbol.StackFull target
     → (at + 4 * words_to_frame chart.jumps ≡ from + 4 * words_to_frame chart.jumps → JumpReaches chart.jumps (at + 4 * words_to_frame chart.jumps + 4) chart.symbols.stack_full
     → BranchesOn chart.jumps Far code (at + 4 * words_to_frame chart.jumps) Equal a b chart.symbols.stack_full)
-    → BranchesOn map.jumps Far code (at + 4 * words_to_frame map.jumps) Equal (frame_register map.jumps) s3 target
-entry_branch {chart} {map} charts code at target from is inside {a} {b} a_is b_is (before, behind, target_is) here =
+    → BranchesOn map.jumps Far code (at + 4 * words_to_frame map.jumps) Equal (frame_register map.jumps free) s3 target
+test_branch {chart} {map} charts code at target from free is inside {a} {b} a_is b_is (before, behind, target_is) here =
     let same : chart.symbols.stack_full ≡ target = charts.symbols.stack_full before behind ∙ sym target_is in
     let high = charts.symbols_in symbol.StackFull before behind in
     let test : ℕ = at + 4 * words_to_frame chart.jumps in
-    let within : IsInText map at (entry_words chart.jumps) = subst (λ (j : Reach). IsInText map at (entry_words j)) (sym charts.jumps) inside in
+    let within : IsInText map at (test_words chart.jumps) = subst (λ (j : Reach). IsInText map at (test_words j)) (sym charts.jumps) inside in
     let reaches : JumpReaches chart.jumps (test + 4) target =
     jump_reaches charts chart.jumps charts.jumps (test + 4) target (omega (arith, within.word)) (omega (arith, target_is, charts.first_word)) (omega (arith, within.low)) (omega (arith, within.high))
     (omega (arith, target_is)) (omega (arith, target_is, high)) in
     let there = here (ap (λ p. p + 4 * words_to_frame chart.jumps) is) (subst (JumpReaches chart.jumps (test + 4)) (sym same) reaches) in
-    subst (λ (j : Reach). BranchesOn j Far code (at + 4 * words_to_frame j) Equal (frame_register j) s3 target) charts.jumps
-    (subst (λ (w : ℕ). BranchesOn chart.jumps Far code test Equal (frame_register chart.jumps) s3 w) same
-    (subst (λ (r : Register). BranchesOn chart.jumps Far code test Equal r s3 chart.symbols.stack_full) (same_register a (frame_register chart.jumps) a_is)
+    subst (λ (j : Reach). BranchesOn j Far code (at + 4 * words_to_frame j) Equal (frame_register j free) s3 target) charts.jumps
+    (subst (λ (w : ℕ). BranchesOn chart.jumps Far code test Equal (frame_register chart.jumps free) s3 w) same
+    (subst (λ (r : Register). BranchesOn chart.jumps Far code test Equal r s3 chart.symbols.stack_full) (same_register a (frame_register chart.jumps free) a_is)
     (subst (λ (r : Register). BranchesOn chart.jumps Far code test Equal a r chart.symbols.stack_full) (same_register b s3 b_is) there)))
 
 -- the jump of an entry that takes no frame, to the same stop

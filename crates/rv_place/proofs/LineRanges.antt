@@ -6,7 +6,7 @@ use Rattle.std.proofs.Common.{refl, sym, ap, ◌∙◌, subst, arith}
 use Rattle.std.proofs.lemmas.Bool.{cases_lt, and_parts, or_from, false≢true}
 use Rattle.rv_isa.specs.declared.asm.Action.{Action}
 use Rattle.rv_isa.specs.declared.asm.Action.TheVariants.{Compute, Label, Jump, Branch, Call, TailCall}
-use Rattle.rv_isa.specs.declared.asm.Action.TheVariants.{Return, Routine, Hold, Unhold}
+use Rattle.rv_isa.specs.declared.asm.Action.TheVariants.{Return, Routine, Hold, Unhold, Room}
 use Rattle.rv_isa.specs.declared.placed.Place.{Place}
 use Rattle.rv_isa.specs.declared.placed.Operand.{Operand}
 use Rattle.rv_isa.specs.PlacedCode.{PlacedLine, does, moves, PlacedLines}
@@ -48,6 +48,7 @@ action_some forms Return args some = return_some forms.frame forms.jumps
 action_some forms (Routine routine) args some = routine_some forms.jumps routine
 action_some forms Hold args some = omega arith
 action_some forms Unhold args some = omega arith
+action_some forms Room args some = omega arith
 
 not_at_home : (home : Option ℕ) (place : Place) → is_none home ≡ true → is_in_any home place ≡ false
 not_at_home None place none = refl

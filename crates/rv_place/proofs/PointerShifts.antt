@@ -28,16 +28,18 @@ module _ {reach : Reach} {size : ℕ} {old new : List Instr} where
       subst (λ (r : Reach). ShiftGrew r size old new) (sym is) (grew_so refl (λ code at here. (whole, size_is, here)) grew)
 
 -- the address of a narrow frame is there
-pub found_narrow : {reach : Reach} {is : List Instr} → (reach ≡ Near) ⊎ (reach ≡ Far) → Grew (words_to_frame reach) (FindsFrame reach) is is
-found_narrow {reach} {is} (inl near) = subst (λ (r : Reach). Grew (words_to_frame r) (FindsFrame r) is is) (sym near) (grew_nothing (FindsFrame Near) is (λ code at. tt))
-found_narrow {reach} {is} (inr far) = subst (λ (r : Reach). Grew (words_to_frame r) (FindsFrame r) is is) (sym far) (grew_nothing (FindsFrame Far) is (λ code at. tt))
+pub found_narrow : {reach : Reach} {is : List Instr} (free : Register) → (reach ≡ Near) ⊎ (reach ≡ Far) → Grew (words_to_frame reach) (FindsFrame reach free) is is
+found_narrow {reach} {is} free (inl near) =
+    subst (λ (r : Reach). Grew (words_to_frame r) (FindsFrame r free) is is) (sym near) (grew_nothing (FindsFrame Near free) is (λ code at. tt))
+found_narrow {reach} {is} free (inr far) =
+    subst (λ (r : Reach). Grew (words_to_frame r) (FindsFrame r free) is is) (sym far) (grew_nothing (FindsFrame Far free) is (λ code at. tt))
 
--- and that of a wide one comes to t0
-pub found_wide : {reach : Reach} {old new : List Instr} {rd rs : Register} → reach ≡ Wide → (down : Immediate) → down.word ≡ 2 ^ 32 - reach_down → rd.number ≡ 5 → rs.number ≡ 2
-    → Grew 1 (λ code at. code at ≡ Some (Addi rd rs down)) old new → Grew (words_to_frame reach) (FindsFrame reach) old new
-found_wide {reach} {old} {new} is down down_is rd_is rs_is grew =
-    subst (λ (r : Reach). Grew (words_to_frame r) (FindsFrame r) old new) (sym is)
-    (grew_so refl (λ code at here. (down, down_is, here ∙ ap Some (same_addi rd_is rs_is refl))) grew)
+-- and that of a wide one comes to a register
+pub found_wide : {reach : Reach} {old new : List Instr} {free rs : Register} → reach ≡ Wide → (down : Immediate) → down.word ≡ 2 ^ 32 - reach_down → rs.number ≡ 2
+    → Grew 1 (λ code at. code at ≡ Some (Addi free rs down)) old new → Grew (words_to_frame reach) (FindsFrame reach free) old new
+found_wide {reach} {old} {new} {free} is down down_is rs_is grew =
+    subst (λ (r : Reach). Grew (words_to_frame r) (FindsFrame r free) old new) (sym is)
+    (grew_so refl (λ code at here. (down, down_is, here ∙ ap Some (same_addi refl rs_is refl))) grew)
 
 pub to_frame_most : (reach : Reach) → words_to_frame reach ≤ 1
 to_frame_most Near = omega arith

@@ -4,7 +4,7 @@ use Rattle.kk_base.specs.Memory.{Part}
 use Rattle.kk_base.specs.Simulations.{Reaches, Simulates}
 use Rattle.kk_base.proofs.Simulations.{ended_reaches}
 use Rattle.rv_isa.specs.declared.asm.Action.{Action}
-use Rattle.rv_isa.specs.declared.asm.Action.TheVariants.{Compute, Label, Jump, Branch, Call, TailCall, Return, Routine, Hold, Unhold}
+use Rattle.rv_isa.specs.declared.asm.Action.TheVariants.{Compute, Label, Jump, Branch, Call, TailCall, Return, Routine, Hold, Unhold, Room}
 use Rattle.rv_isa.specs.declared.placed.Operand.{Operand}
 use Rattle.rv_isa.specs.declared.placed.Listed.{Listed}
 use Rattle.rv_isa.specs.PlacedCode.{PlacedLine, does, moves, PlacedLines, from_of, to_of}
@@ -31,7 +31,7 @@ use Rattle.rv_place.proofs.LineOutcomes.{or_stuck_some, Comes}
 use Rattle.rv_place.proofs.TargetRegisters.{move_target, gives_target, gives_somewhere}
 use Rattle.rv_place.proofs.MoveSimulation.{follow_label, follow_silent, follow_move}
 use Rattle.rv_place.proofs.CellSimulation.{follow_compute}
-use Rattle.rv_place.proofs.JumpSimulation.{follow_jump, follow_branch, follow_tail_call, follow_call, follow_return}
+use Rattle.rv_place.proofs.JumpSimulation.{follow_jump, follow_branch, follow_tail_call, follow_room, follow_call, follow_return}
 use Rattle.rv_place.proofs.RoutineActions.{follow_routine}
 use Rattle.rv_place.proofs.TokenSimulation.{follow_hold, follow_unhold}
 
@@ -116,6 +116,12 @@ module _ {map_of : Map} {pool : Pool} {functions : List PlacedLines} {depth buff
           follow_unhold ground f fs known world s running rest (suc (length rest)) (line_takes running.frames.0 line rest code_is refl) args into words turn good words_are
           (λ next next_is below. goes_behind running.frames.0 line rest code_is next (record f { code = rest }) refl refl refl (loud_words Unhold loud ∙ next_is) below)
           conform (gives_target Unhold args into writes.0 loud) (line_at running.frames.0 line rest code_is loud) is
+      follow_action Room code_is conform loud is =
+          let line = does alive Room args into in
+          subst (λ t. Comes map_of pool functions depth stop code parts 4 (suc (length rest)) t s) is
+          (follow_room ground plain f fs known world s running rest (suc (length rest)) running.frames.0.forms (line_takes running.frames.0 line rest code_is refl)
+          (ap (λ (forms : Forms). forms.jumps) running.frames.0.forms_are) (line_at running.frames.0 line rest code_is loud)
+          (λ next next_is below. goes_behind running.frames.0 line rest code_is next (record f { code = rest }) refl refl refl (loud_words Room loud ∙ next_is) below))
 
       -- or what it does without an instruction
       follow_statement : (silent : Bool) (action : Action) → is_silent action args into ≡ silent → f.code ≡ does alive action args into ∷ rest → conforms action args into ≡ true

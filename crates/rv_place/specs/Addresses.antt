@@ -5,7 +5,7 @@ use Rattle.std.specs.Prelude.{◌&&◌, ◌||◌, cond, nat_lt, map}
 use Rattle.std.specs.List.{list_any}
 use Rattle.rv_isa.specs.declared.asm.Action.{Action}
 use Rattle.rv_isa.specs.declared.asm.Action.TheVariants.{Compute, Label, Jump, Branch, Call, TailCall, Return, Routine, Hold}
-use Rattle.rv_isa.specs.declared.asm.Action.TheVariants.{Unhold}
+use Rattle.rv_isa.specs.declared.asm.Action.TheVariants.{Unhold, Room}
 use Rattle.rv_isa.specs.declared.asm.Operation.{Operation}
 use Rattle.rv_isa.specs.declared.asm.Operation.TheVariants.{Dup}
 use Rattle.rv_isa.specs.declared.placed.Way.{Way}
@@ -31,14 +31,15 @@ abbrev pub operation_links : Operation → Bool
 operation_links Dup = true
 operation_links _ = false
 
--- whether an action writes ra, as a call does, which has the way back in it, or has a slot: a token is held in one, and taken back
--- from it
+-- Whether an action writes ra, as a call does, which has the way back in it, or has a slot: a token is held in one, and taken back
+-- from it. A Room compares the frame of its function with the lowest one.
 abbrev pub action_needs_frame : Action → Bool
 action_needs_frame (Compute operation) = operation_links operation
 action_needs_frame (Call f) = true
 action_needs_frame (Routine routine) = true
 action_needs_frame Hold = true
 action_needs_frame Unhold = true
+action_needs_frame Room = true
 action_needs_frame _ = false
 
 -- whether a move has a slot
@@ -91,6 +92,16 @@ is_pointer_slot jumps (Some k) = k == pointer_slot jumps
 abbrev pub is_at_pointer : Reach → List Operand → Bool
 is_at_pointer jumps args = is_pointer_slot jumps (first_slot args)
 
+-- how many instructions give the address of a frame: none where the stack pointer is at its first word
+abbrev pub words_to_frame : Reach → ℕ
+words_to_frame Near = 0
+words_to_frame Far = 0
+words_to_frame Wide = 1
+
+-- how many instructions test whether a frame is left: they compare the newest frame with the lowest one, before a jump to the stop
+abbrev pub test_words : Reach → ℕ
+test_words jumps = words_to_frame jumps + 1 + words_of_jump jumps
+
 -- how many instructions an action is, by the forms of jumps and branches
 abbrev pub words_of_action : Forms → Action → List Operand → ℕ
 words_of_action forms (Compute operation) args = words_of_operation operation
@@ -103,6 +114,7 @@ words_of_action forms Return args = words_of_return forms
 words_of_action forms (Routine routine) args = words_of_routine forms.jumps routine
 words_of_action forms Hold args = words_to_hold (is_at_pointer forms.jumps args)
 words_of_action forms Unhold args = 3
+words_of_action forms Room args = test_words forms.jumps
 
 -- whether two places are one register
 abbrev pub is_same_register : Place → Place → Bool
@@ -170,14 +182,7 @@ forms_of jumps lines = record {
 
 -- ---- functions
 
--- how many instructions give the address of a frame: none where the stack pointer is at its first word
-abbrev pub words_to_frame : Reach → ℕ
-words_to_frame Near = 0
-words_to_frame Far = 0
-words_to_frame Wide = 1
-
--- A function begins with its entry. It compares the newest frame with the lowest one; behind that test a function that takes a
--- frame does so, and
+-- A function begins with its entry. It tests whether a frame is left; behind that test a function that takes a frame does so, and
 -- saves the way back. A function that takes none has there, for tail calls, what gives a frame back, and as many instructions.
 abbrev pub entry_words : Reach → ℕ
 entry_words jumps = words_to_frame jumps + 2 + words_of_jump jumps + words_of_shift jumps
@@ -185,10 +190,6 @@ entry_words jumps = words_to_frame jumps + 2 + words_of_jump jumps + words_of_sh
 -- how many instructions it is at most: as many as where frames are wide
 abbrev pub most_entry_words : ℕ
 most_entry_words = entry_words Wide
-
--- how many of them are the test
-abbrev pub test_words : Reach → ℕ
-test_words jumps = words_to_frame jumps + 1 + words_of_jump jumps
 
 -- How many of its callee's first instructions a tail call leaves out, by whether its own function takes a frame, and whether the
 -- callee does: the

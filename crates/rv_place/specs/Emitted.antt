@@ -24,10 +24,10 @@ use Rattle.cell_runtime.specs.Lines.{Spells}
 use Rattle.cell_runtime.specs.Lines as OfRuntime
 use Rattle.cell_runtime.specs.Operations.{address_in}
 use Rattle.rv_place.specs.Addresses.{words_of_action, words_of_shift, words_of_line, words_of_lines, words_of_function}
-use Rattle.rv_place.specs.Addresses.{words_of_functions, branch_words, jump_words, entry_words, entries_from, slot_offset, way_offset}
+use Rattle.rv_place.specs.Addresses.{words_of_functions, branch_words, jump_words, test_words, entry_words, entries_from, slot_offset, way_offset}
 use Rattle.rv_place.specs.Addresses.{IsBehind, label_address}
 use Rattle.rv_place.specs.Lines.{Map, IsFromPointer, ShiftsStack, ActsAt, LineAt, LinesAt, FunctionAt, FunctionsAt, BeginsAt}
-use Rattle.rv_place.specs.Lines.{MovesBy, ReturnsBy, registers_of, register_into}
+use Rattle.rv_place.specs.Lines.{MovesBy, ReturnsBy, TestsRoom, registers_of, register_into}
 use Rattle.rv_place.specs.Registers.{zero_register, ra, sp}
 use Rattle.rv_isa.specs.PlacedMachine.{first_slot}
 use Rattle.rv_place.specs.Instructions.{Computes}
@@ -202,6 +202,10 @@ abbrev pub LeavesFrame : Reach → ℕ → Code → ℕ → Type 0
 LeavesFrame jumps size code at =
     ((back : Immediate) × IsFromPointer jumps (way_offset size) back × (code at ≡ Some (Lw ra sp back)))
     × ShiftsStack jumps size code (at + 4)
+
+-- a test whether a frame is left, that was emitted for an address
+abbrev pub TestBy : Chart → ℕ → Register → Code → ℕ → Type 0
+TestBy chart from free code at = at ≡ from → (map : Map) → Charts chart map → IsInText map at (test_words map.jumps) → TestsRoom free map code at
 
 -- an entry, by whether the function takes a frame
 abbrev pub EntryBy : Chart → ℕ → Bool → Code → ℕ → Type 0

@@ -9,7 +9,7 @@ use Rattle.rv_isa.specs.declared.asm.Condition.{Condition}
 use Rattle.rv_isa.specs.declared.asm.Condition.TheVariants.{Equal}
 use Rattle.rv_isa.specs.declared.asm.Action.{Action}
 use Rattle.rv_isa.specs.declared.asm.Action.TheVariants.{Compute, Label, Jump, Branch, Call, TailCall, Return, Routine, Hold}
-use Rattle.rv_isa.specs.declared.asm.Action.TheVariants.{Unhold}
+use Rattle.rv_isa.specs.declared.asm.Action.TheVariants.{Unhold, Room}
 use Rattle.rv_isa.specs.declared.placed.Place.{Place}
 use Rattle.rv_isa.specs.declared.placed.Place.TheVariants.{Register as register, Slot as slot}
 use Rattle.rv_isa.specs.declared.placed.Operand.{Operand}
@@ -131,6 +131,25 @@ abbrev pub OnToken : (Code → ℕ → Immediate → Type 0) → Map → Code �
 OnToken Stands map code at args =
     (k : ℕ) → first_slot args ≡ Some k → (offset : Immediate) × IsOffsetOf map k offset × Stands code at offset
 
+-- The register that has the address of the newest frame's first word: the stack pointer, but where frames are wide one that is set
+-- to it.
+abbrev pub frame_register : Reach → Register → Register
+frame_register Near free = sp
+frame_register Far free = sp
+frame_register Wide free = free
+
+abbrev pub FindsFrame : Reach → Register → Code → ℕ → Type 0
+FindsFrame Near free code at = Unit {0}
+FindsFrame Far free code at = Unit {0}
+FindsFrame Wide free code at = (down : Immediate) × (down.word ≡ 2 ^ 32 - reach_down) × (code at ≡ Some (Addi free sp down))
+
+-- A test whether a frame is left. Where the newest one is the lowest, which begins at the end of the cells, none is, and the runtime's
+-- stop for a full stack comes. The register is one that nothing stands in.
+pub record TestsRoom (free : Register) (map : Map) (code : Code) (at : ℕ) : Type 0 where
+  pub finds : FindsFrame map.jumps free code at
+  pub full : (target : ℕ) → IsSymbolAt map symbol.StackFull target
+      → BranchesOn map.jumps Far code (at + 4 * words_to_frame map.jumps) Equal (frame_register map.jumps free) s3 target
+
 -- What stands at an address for an action of a function of these forms whose lines, `whole`, stand at `start`. Of what is none,
 -- as a jump to a label that is
 -- not there, nothing is said.
@@ -153,6 +172,7 @@ ActsAt map forms code start whole at Hold args into =
     (token : Register) → token_from args ≡ Some token → OnToken (HoldsToken (is_at_pointer forms.jumps args) token) map code at args
 ActsAt map forms code start whole at Unhold args into =
     (token : Register) → token_into into ≡ Some token → OnToken (UnholdsToken token) map code at args
+ActsAt map forms code start whole at Room args into = TestsRoom ra map code at
 
 -- of what is no instruction nothing is said
 abbrev pub LineAt : Map → Forms → Code → ℕ → List PlacedLine → ℕ → PlacedLine → Type 0
@@ -168,25 +188,9 @@ LinesAt map forms code start whole at (line ∷ lines) =
 
 -- ---- the functions
 
--- the register that holds the address of the newest frame's first word
-abbrev pub frame_register : Reach → Register
-frame_register Near = sp
-frame_register Far = sp
-frame_register Wide = t0
-
--- the address of the newest frame's first word comes to its register: where frames are wide, t0 is set to it
-abbrev pub FindsFrame : Reach → Code → ℕ → Type 0
-FindsFrame Near code at = Unit {0}
-FindsFrame Far code at = Unit {0}
-FindsFrame Wide code at = (down : Immediate) × (down.word ≡ 2 ^ 32 - reach_down) × (code at ≡ Some (Addi t0 sp down))
-
--- The entry of a function that takes a frame: where the newest frame is the lowest, which begins at the end of the cells, no
--- frame is left, and the
--- runtime's stop for a full stack comes; else a frame is taken, and the way back saved in its last word.
+-- The entry of a function that takes a frame: where one is left it is taken, and the way back saved in its last word.
 pub record EntersAt (map : Map) (code : Code) (at : ℕ) : Type 0 where
-  pub finds : FindsFrame map.jumps code at
-  pub full : (target : ℕ) → IsSymbolAt map symbol.StackFull target
-      → BranchesOn map.jumps Far code (at + 4 * words_to_frame map.jumps) Equal (frame_register map.jumps) s3 target
+  pub tests : TestsRoom t0 map code at
   pub takes : ShiftsStack map.jumps (2 ^ 32 - map.frame) code (at + 4 * words_to_frame map.jumps + 4 + 4 * words_of_jump map.jumps)
   pub back : Immediate
   pub back_is : IsFromPointer map.jumps (way_offset map.frame) back

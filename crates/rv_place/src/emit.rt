@@ -12,7 +12,7 @@ ghost use Rattle.rv_place.specs.Registers.{zero_register, ra, sp};
 ghost use Rattle.rv_place.specs.Instructions.{LoadsWord, SetsWord, words_of_constant, words_of_jump, words_of_branch, JumpsBy, JumpsTo, CallsTo, BranchesOn, branch_instruction};
 ghost use Rattle.rv_place.specs.Texts.{greatest_address};
 ghost use Rattle.rv_place.specs.Lines.{IsFromPointer, ShiftsStack, GoesBack, FindsFrame, frame_register};
-ghost use Rattle.rv_place.specs.Emitted.{Grew, AreNear, JumpReaches, BranchReaches, TakesFrame, LeavesFrame, ReturnBy, EntryBy, MoveBy};
+ghost use Rattle.rv_place.specs.Emitted.{Grew, AreNear, JumpReaches, BranchReaches, TakesFrame, LeavesFrame, ReturnBy, TestBy, EntryBy, MoveBy};
 
 use crate::chart::Chart;
 use crate::reach::{Forms, Reach, WordForm};
@@ -225,7 +225,7 @@ fn emit_far_branch(
     left: Register,
     right: Register,
 ) -> Result<(), NoMemory>
-    requires at { at ≤ greatest_address }
+    requires at { at ≤ greatest_address + 4 }
     ensures { OnOk result (Grew (1 + words_of_jump jumps) (λ c p. p ≡ at → JumpReaches jumps (p + 4) target → BranchesOn jumps Far c p condition left right target) code.old.items code.new.items) }
 {
     let over = over_jump(jumps);
@@ -419,19 +419,19 @@ fn emit_taking(code: &mut Vec<Instr>, jumps: Reach, frame: u32) -> Result<(), No
     Ok(())
 }
 
-/// The register that holds the address of the newest frame, once `emit_finding` has stood before.
-fn frame_register(jumps: Reach) -> Register
-    ensures { result.number ≡ (frame_register jumps).number }
+/// The register that has the address of the newest frame, once `emit_finding` has stood before.
+fn frame_register(jumps: Reach, free: Register) -> Register
+    ensures { result.number ≡ (frame_register jumps free).number }
 {
     match jumps {
         Reach::Near | Reach::Far => Register::SP,
-        Reach::Wide => Register::T0,
+        Reach::Wide => free,
     }
 }
 
 /// Makes a register the address of the newest frame, where the stack pointer is not at its first word.
-fn emit_finding(code: &mut Vec<Instr>, jumps: Reach) -> Result<(), NoMemory>
-    ensures { OnOk result (Grew (words_to_frame jumps) (FindsFrame jumps) code.old.items code.new.items) }
+fn emit_finding(code: &mut Vec<Instr>, jumps: Reach, free: Register) -> Result<(), NoMemory>
+    ensures { OnOk result (Grew (words_to_frame jumps) (FindsFrame jumps free) code.old.items code.new.items) }
 {
     match jumps {
         Reach::Near | Reach::Far => Ok(()),
@@ -440,7 +440,7 @@ fn emit_finding(code: &mut Vec<Instr>, jumps: Reach) -> Result<(), NoMemory>
             emit(
                 code,
                 Instr::Addi {
-                    rd: Register::T0,
+                    rd: free,
                     rs1: Register::SP,
                     imm: down,
                 },
@@ -449,24 +449,39 @@ fn emit_finding(code: &mut Vec<Instr>, jumps: Reach) -> Result<(), NoMemory>
     }
 }
 
-/// The entry of a function that takes a frame, at the address `at`: where the newest frame is the lowest, at the end of the
-/// cells, the stop for a full stack; else a frame is taken.
-fn emit_framed_entry(code: &mut Vec<Instr>, at: u32, chart: &Chart) -> Result<(), NoMemory>
-    requires at { at + 4 ≤ greatest_address }
-    requires some { 4 ≤ chart.now.frame }
-    requires few { chart.now.frame ≤ greatest_frame chart.now.jumps }
-    ensures { OnOk result (Grew (entry_words chart.now.jumps) (EntryBy chart.now at true) code.old.items code.new.items) }
+/// A test whether a frame is left, at the address `at`: where the newest frame is the lowest, at the end of the cells, the stop for
+/// a full stack. Nothing stands in the register.
+pub fn emit_test(
+    code: &mut Vec<Instr>,
+    at: u32,
+    chart: &Chart,
+    free: Register,
+) -> Result<(), NoMemory>
+    requires at { at ≤ greatest_address }
+    ensures { OnOk result (Grew (test_words chart.now.jumps) (TestBy chart.now at free) code.old.items code.new.items) }
 {
-    emit_finding(code, chart.jumps)?;
+    emit_finding(code, chart.jumps, free)?;
     emit_far_branch(
         code,
         at + 4 * chart.jumps.words_to_frame(),
         chart.symbols.stack_full,
         chart.jumps,
         Condition::Equal,
-        frame_register(chart.jumps),
+        frame_register(chart.jumps, free),
         Register::S3,
     )?;
+    Ok(())
+}
+
+/// The entry of a function that takes a frame, at the address `at`: where none is left, the stop for a full stack; else one is
+/// taken.
+fn emit_framed_entry(code: &mut Vec<Instr>, at: u32, chart: &Chart) -> Result<(), NoMemory>
+    requires at { at + 4 ≤ greatest_address }
+    requires some { 4 ≤ chart.now.frame }
+    requires few { chart.now.frame ≤ greatest_frame chart.now.jumps }
+    ensures { OnOk result (Grew (entry_words chart.now.jumps) (EntryBy chart.now at true) code.old.items code.new.items) }
+{
+    emit_test(code, at, chart, Register::T0)?;
     emit_taking(code, chart.jumps, chart.frame)?;
     Ok(())
 }

@@ -12,14 +12,16 @@ ghost use Rattle.rv_place.specs.Emitted.{Grew, ActionBy, LineBy, LinesBy, Functi
 
 use crate::cells::{emit_hold, emit_unhold, token_into};
 use crate::chart::Chart;
-use crate::emit::{emit_branch, emit_call, emit_entry, emit_jump, emit_move, emit_return};
+use crate::emit::{
+    emit_branch, emit_call, emit_entry, emit_jump, emit_move, emit_return, emit_test,
+};
 use crate::labels::Labels;
 use crate::operations::{argument, emit_operation};
 use crate::reach::Reach;
 use crate::routines::emit_routine;
 use crate::sizes::{forms_of, is_silent, words_of_function, words_of_item};
 use kk_base::NoMemory;
-use rv_isa::{Action, Instr, Item, Operand, PlacedFunction};
+use rv_isa::{Action, Instr, Item, Operand, PlacedFunction, Register};
 use std::alloc::Global;
 
 /// An action of a function that has these labels, at the address `at`.
@@ -65,6 +67,7 @@ fn emit_action(
         }
         Action::Hold => emit_hold(code, jumps, args, argument(args, 1)),
         Action::Unhold => emit_unhold(code, jumps, args, token_into(into)),
+        Action::Room => emit_test(code, at, chart, Register::RA),
     }
 }
 

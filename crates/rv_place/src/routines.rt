@@ -10,8 +10,8 @@ use crate::reach::{Reach, WORDS_TO_LOWER};
 use kk_base::NoMemory;
 use rv_isa::{BranchOffset, Immediate, Instr, Register, Routine};
 
-/// Loads the count of the cell to which `a0` refers to `ra`, and goes over so much of what stands behind where the reference
-/// is odd, which names no cell.
+/// Loads the count of the cell to which `a0` refers into `ra`. An odd reference names no cell: there the branch `over` skips the rest
+/// of the drop.
 fn emit_count(code: &mut Vec<Instr>, over: BranchOffset) -> Result<(), NoMemory>
     ensures { OnOk result (Grew 3 (LoadsCount over) code.old.items code.new.items) }
 {
@@ -43,7 +43,7 @@ fn emit_count(code: &mut Vec<Instr>, over: BranchOffset) -> Result<(), NoMemory>
     Ok(())
 }
 
-/// Lowers the count in `ra`, stores it again, and goes over so much of what stands behind where it is not 0.
+/// Lowers the count in `ra` and stores it. Where it is not 0, the branch `over` skips the call of the routine.
 fn emit_lowered(code: &mut Vec<Instr>, over: BranchOffset) -> Result<(), NoMemory>
     ensures { OnOk result (Grew 3 (LowersCount over) code.old.items code.new.items) }
 {
@@ -75,7 +75,7 @@ fn emit_lowered(code: &mut Vec<Instr>, over: BranchOffset) -> Result<(), NoMemor
     Ok(())
 }
 
-/// Over what stands behind the test of a reference: the distance of a branch that stands right before it.
+/// The distance from the test whether a reference is odd to the end of its drop.
 fn over_drop(jumps: Reach) -> BranchOffset
     ensures { result.word ≡ 20 + 4 * words_of_jump jumps }
 {

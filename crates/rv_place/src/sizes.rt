@@ -46,6 +46,7 @@ fn words_of_action(forms: Forms, action: Action, args: &[Operand]) -> u32
         Action::Return => forms.words_of_return(),
         Action::Hold => forms.jumps.words_to_hold(args),
         Action::Unhold => 3,
+        Action::Room => forms.jumps.test_words(),
     }
 }
 
@@ -145,13 +146,13 @@ fn operation_links(operation: Operation) -> bool
     }
 }
 
-/// Whether an action writes `ra`, or has a slot.
+/// Whether an action writes `ra`, has a slot, or compares the frame of its function.
 fn action_needs_frame(action: Action) -> bool
     ensures { result ≡ action_needs_frame action }
 {
     match action {
         Action::Compute(operation) => operation_links(operation),
-        Action::Call(_) | Action::Routine(_) | Action::Hold | Action::Unhold => true,
+        Action::Call(_) | Action::Routine(_) | Action::Hold | Action::Unhold | Action::Room => true,
         Action::Label(_)
         | Action::Jump(_)
         | Action::Branch(_, _)

@@ -3,7 +3,7 @@ use Rattle.std.proofs.Common.{◌≡◌, ◌≢◌, ◌==◌, ◌⊎◌, ℕ, su
 use Rattle.std.proofs.lemmas.Bool.{and_parts}
 use Rattle.std.proofs.lemmas.List.Elements.{All-head}
 use Rattle.rv_isa.specs.declared.asm.Action.{Action}
-use Rattle.rv_isa.specs.declared.asm.Action.TheVariants.{Compute, Label, Jump, Branch, Call, TailCall, Return, Routine, Hold, Unhold}
+use Rattle.rv_isa.specs.declared.asm.Action.TheVariants.{Compute, Label, Jump, Branch, Call, TailCall, Return, Routine, Hold, Unhold, Room}
 use Rattle.rv_isa.specs.declared.asm.Operation.{Operation}
 use Rattle.rv_isa.specs.declared.asm.Condition.{Condition}
 use Rattle.rv_isa.specs.declared.routine.Routine.{Routine as RoutineName}
@@ -283,6 +283,14 @@ module _ {H E W : Type 0} (m : Primitives H E W) (depth : ℕ) (asm : List Lines
           (ended m.stack_full shared) (placed_goes (placed_entered n callee') (record g { into = awaited into } ∷ gs) (passed 0 words) shared)
           (refl, refl) ((enters n callee callee' words cells placing e, (waiting, waits)), refl)))
 
+  -- the stack is full of as many frames
+  has_room : (into : Option Operand) → Follows Room into
+  has_room None ok fits =
+      subst (λ many. StandsFor (cond (nat_le depth (suc (length fs))) (ended m.stack_full shared) (asm_goes f fs shared)) (cond (nat_le depth (suc many)) (ended m.stack_full shared) (placed_goes g gs registers shared))) (as_many_wait fs gs waits)
+      (cond_go (nat_le depth (suc (length fs))) (ended m.stack_full shared) (asm_goes f fs shared) (ended m.stack_full shared) (placed_goes g gs registers shared) (refl, refl)
+      (gives W alive Room args None (first_alive g.code ∷ []) registers shared 0 f fs g gs fits stands waits (inl refl) (λ v k. refl)))
+  has_room (Some o) ok fits = absurd (no_write Room args o refl ok)
+
   tail_calls : (n : ℕ) (into : Option Operand) → Follows (TailCall n) into
   tail_calls n into ok fits =
       held_go alive f.held g.held (or_stuck (slice_get asm n) (λ callee. or_stuck (bound callee.params words) (λ cells. asm_goes (asm_entered n callee cells) fs shared)))
@@ -463,3 +471,4 @@ follows m depth asm placed all alive args registers shared f fs g gs words stand
 follows m depth asm placed all alive args registers shared f fs g gs words stands waits (Routine routine) into ok fits = routines m depth asm placed all alive args registers shared f fs g gs words stands waits routine into ok fits
 follows m depth asm placed all alive args registers shared f fs g gs words stands waits Hold into ok fits = holds_token m depth asm placed alive registers shared f fs g gs words stands waits args into ok fits
 follows m depth asm placed all alive args registers shared f fs g gs words stands waits Unhold into ok fits = takes_back m depth asm placed alive registers shared f fs g gs words stands waits args into ok fits
+follows m depth asm placed all alive args registers shared f fs g gs words stands waits Room into ok fits = has_room m depth asm placed all alive args registers shared f fs g gs words stands waits into ok fits

@@ -2,7 +2,7 @@
 use Rattle.std.proofs.Common.{◌≡◌, ◌||◌, ◌&&◌, ◌⊎◌, ◌<◌, ℕ, List, [], ◌∷◌, Option, Bool, true, false, not, cond, refl, sym, ◌∙◌, ap, inl, inr}
 use Rattle.std.proofs.lemmas.Bool.{or_cases, and_parts, false≢true, cond_both}
 use Rattle.rv_isa.specs.declared.asm.Action.{Action}
-use Rattle.rv_isa.specs.declared.asm.Action.TheVariants.{Compute, Label, Jump, Branch, Call, TailCall, Return, Routine, Hold, Unhold}
+use Rattle.rv_isa.specs.declared.asm.Action.TheVariants.{Compute, Label, Jump, Branch, Call, TailCall, Return, Routine, Hold, Unhold, Room}
 use Rattle.rv_isa.specs.AsmCode.{Line}
 use Rattle.rv_isa.specs.AsmMachine.{is_label}
 use Rattle.rv_isa.specs.Frames.{is_among}
@@ -24,6 +24,7 @@ behind_exact v (Call f) next at_label is_next is_at e es = e
 behind_exact v (Routine routine) next at_label is_next is_at e es = e
 behind_exact v Hold next at_label is_next is_at e es = e
 behind_exact v Unhold next at_label is_next is_at e es = e
+behind_exact v Room next at_label is_next is_at e es = e
 
 pub among_before : (args : List ℕ) (into : Option ℕ) (behind : List ℕ) (v : ℕ) → is_among v (values_before args into behind) ≡ (is_among v args || (not (is_written into v) && is_among v behind))
 among_before args into behind v = among_with_values args (without into behind) v ∙ ap (λ b. is_among v args || b) (among_without into behind v)
@@ -65,6 +66,7 @@ behind_distinct (Call f) next at_label d ds = d
 behind_distinct (Routine routine) next at_label d ds = d
 behind_distinct Hold next at_label d ds = d
 behind_distinct Unhold next at_label d ds = d
+behind_distinct Room next at_label d ds = d
 
 distinct_both : (code : List Line) → AreDistinct (alive_values code) × ((l : ℕ) → AreDistinct (alive_values_at l code))
 distinct_both [] = (tt, λ l. tt)
@@ -98,6 +100,7 @@ after_cases (Call f) P next at_label h hs t = h t
 after_cases (Routine routine) P next at_label h hs t = h t
 after_cases Hold P next at_label h hs t = h t
 after_cases Unhold P next at_label h hs t = h t
+after_cases Room P next at_label h hs t = h t
 
 cond_cases : (P : Type 0) (b x y : Bool) → (x ≡ true → P) → (y ≡ true → P) → cond b x y ≡ true → P
 cond_cases P true x y h k t = h t

@@ -4,7 +4,7 @@ use Rattle.std.specs.List.{AllByRecursion}
 use Rattle.std.proofs.Math.Seq.{drop-nil}
 use Rattle.kk_base.specs.Machines.{state}
 use Rattle.rv_isa.specs.declared.asm.Action.{Action}
-use Rattle.rv_isa.specs.declared.asm.Action.TheVariants.{Compute, Label, Jump, Branch, Call, TailCall, Return, Routine, Hold, Unhold}
+use Rattle.rv_isa.specs.declared.asm.Action.TheVariants.{Compute, Label, Jump, Branch, Call, TailCall, Return, Routine, Hold, Unhold, Room}
 use Rattle.rv_isa.specs.declared.placed.Operand.{Operand}
 use Rattle.rv_isa.specs.PlacedCode.{PlacedLine, does, moves, PlacedLines, from_of, to_of}
 use Rattle.rv_isa.specs.Primitives.{Reply, answers, ends, fails, Primitives, go, ended, stuck, or_stuck, by_token}
@@ -214,6 +214,8 @@ module _ {H E W : Type 0} (m : Primitives H E W) (depth : ℕ) (placed : List Pl
   acts_in_code f fs registers shared Unhold args into words all =
       chain_in_code into f fs (kept_by Unhold registers) (only_slot args) (only_of words) (λ k word. unholding k word f.held)
       (λ word. by_token m.unhold word shared) all
+  acts_in_code f fs registers shared Room args into words all =
+      if_in_code placed (nat_le depth (length (f ∷ fs))) (ended m.stack_full shared) (placed_goes f fs registers shared) tt all
 
   -- what a line leads to
   line_in_code : (f : Frame PlacedLine) (fs : List (Frame PlacedLine)) (registers : ℕ → Option ℕ) (shared : H)

@@ -6,7 +6,7 @@ use Rattle.std.proofs.lemmas.Bool.{or_cases, or_left, or_right, and_from, not_fr
 use Rattle.std.proofs.lemmas.List.Folds.{list_any-append}
 use Rattle.rv_isa.specs.declared.register.Register.{Register}
 use Rattle.rv_isa.specs.declared.asm.Action.{Action}
-use Rattle.rv_isa.specs.declared.asm.Action.TheVariants.{Compute, Label, Jump, Branch, Call, TailCall, Return, Routine, Hold, Unhold}
+use Rattle.rv_isa.specs.declared.asm.Action.TheVariants.{Compute, Label, Jump, Branch, Call, TailCall, Return, Routine, Hold, Unhold, Room}
 use Rattle.rv_isa.specs.declared.placed.Place.{Place}
 use Rattle.rv_isa.specs.declared.placed.Place.TheVariants.{Slot as slot}
 use Rattle.rv_isa.specs.declared.placed.Listed.{Listed}
@@ -68,6 +68,7 @@ stays_alive v action args before behind into rest changes leaves there later = g
     go (Compute operation) c = kept (Compute operation) (sym (ap (is_among v) c.0) ∙ there) refl
     go (Call f) c = kept (Call f) (sym (ap (is_among v) c.0) ∙ there) refl
     go (Routine routine) c = kept (Routine routine) (sym (ap (is_among v) c.0) ∙ there) refl
+    go Room c = kept Room (sym (ap (is_among v) c.0) ∙ there) refl
 
 pub held_alive : (v : ℕ) (held : List ℕ) (code : List Line) → AreTokensHeld held code → is_among v held ≡ true → is_alive v code ≡ true
 held_alive v held [] tokens there = absurd (false≢true (sym (ap (is_among v) tokens) ∙ there))

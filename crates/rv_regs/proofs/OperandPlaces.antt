@@ -4,7 +4,7 @@ use Rattle.std.specs.List.{AllByRecursion}
 use Rattle.std.proofs.lemmas.Bool.{eqb-true, eqb-false, cond-true, or_cases, or_left, or_right, and_from, and_parts, not-true, not_from_false, false≢true, cases_Bool, cond_both, le-leb}
 use Rattle.std.proofs.lemmas.List.Elements.{All-nil, All-cons}
 use Rattle.rv_isa.specs.declared.asm.Action.{Action}
-use Rattle.rv_isa.specs.declared.asm.Action.TheVariants.{Compute, Label, Jump, Branch, Call, TailCall, Return, Routine, Hold, Unhold}
+use Rattle.rv_isa.specs.declared.asm.Action.TheVariants.{Compute, Label, Jump, Branch, Call, TailCall, Return, Routine, Hold, Unhold, Room}
 use Rattle.rv_isa.specs.declared.asm.Operation.TheVariants.{Register, Immediate, Shift, Li, Mv, La, Lw, Sw, Dup, Free}
 use Rattle.rv_isa.specs.declared.routine.Routine.TheVariants.{Take, Drop, PrintInt, PrintText, ReadByte}
 use Rattle.rv_isa.specs.declared.placed.Place.{Place}
@@ -53,6 +53,7 @@ most_registers (Routine PrintText) = omega arith
 most_registers (Routine ReadByte) = omega arith
 most_registers Hold = omega arith
 most_registers Unhold = omega arith
+most_registers Room = omega arith
 
 -- nor lower registers
 some_registers : (action : Action) → 4 ≤ first_register action
@@ -66,6 +67,7 @@ some_registers Return = omega arith
 some_registers (Routine routine) = omega arith
 some_registers Hold = omega arith
 some_registers Unhold = omega arith
+some_registers Room = omega arith
 
 registers_handed : (action : Action) (k : ℕ) → first_register action ≤ k → k < first_register action + most_args action → is_handed_out k ≡ true
 registers_handed (Compute operation) k low high = handed_low k (omega arith) (omega arith)
@@ -78,6 +80,7 @@ registers_handed Return k low high = handed_argument k (omega arith) (omega (ari
 registers_handed (Routine routine) k low high = handed_argument k low (omega (arith, most_registers (Routine routine), high))
 registers_handed Hold k low high = handed_argument k (omega arith) (omega (arith, most_registers Hold))
 registers_handed Unhold k low high = handed_argument k (omega arith) (omega (arith, most_registers Unhold))
+registers_handed Room k low high = handed_argument k (omega arith) (omega (arith, most_registers Room))
 
 -- what holds of each argument holds of each that is loaded
 pub loaded_values : (P : ℕ → Type 0) (action : Action) (args : List ℕ) → ((v : ℕ) → is_among v args ≡ true → P v) → AllByRecursion (λ (l : Loaded). P l.value) (loaded_for action args)
@@ -116,6 +119,7 @@ takes_number (Routine PrintText) (suc (suc n)) few over = absurd (omega (arith, 
 takes_number (Routine ReadByte) n few over = absurd (omega (arith, few))
 takes_number Hold n few over = absurd (false≢true over)
 takes_number Unhold n few over = absurd (false≢true over)
+takes_number Room n few over = absurd (omega (arith, few))
 
 takes_any : (action : Action) (fits : Place → Bool) (loaded : List Loaded) (n : ℕ) (vs : List ℕ) → ((k : ℕ) (place : Place) → fits place ≡ true → takes_at action k place ≡ true)
     → ((v : ℕ) → is_among v vs ≡ true → fits (place_in loaded v) ≡ true) → take_from action n (map (operand_at (place_in loaded)) vs) ≡ true
@@ -201,6 +205,7 @@ gives_number (TailCall f) may = absurd (false≢true may)
 gives_number Return may = absurd (false≢true may)
 gives_number Hold may = absurd (false≢true may)
 gives_number Unhold may = refl
+gives_number Room may = absurd (false≢true may)
 
 gives_result : (action : Action) (into : Option ℕ) → (has_value into ≡ true → may_give action ≡ true) → gives_into action (result_of action into) ≡ true
 gives_result action None gives = refl

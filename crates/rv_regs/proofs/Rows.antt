@@ -1,7 +1,7 @@
 -- The placed form's machine keeps to code with few moves between its statements, and pays for the stores to come.
 use Rattle.std.proofs.Common.{◌≡◌, ◌≤◌, ◌+◌, ◌-◌, ◌*◌, ℕ, zero, suc, List, [], ◌∷◌, Option, Some, None, Bool, true, false, cond, slice_get, length, nat_le, refl, sym, ◌∙◌, ap, subst, arith, map, option_map}
 use Rattle.rv_isa.specs.declared.asm.Action.{Action}
-use Rattle.rv_isa.specs.declared.asm.Action.TheVariants.{Compute, Label, Jump, Branch, Call, TailCall, Return, Routine, Hold, Unhold}
+use Rattle.rv_isa.specs.declared.asm.Action.TheVariants.{Compute, Label, Jump, Branch, Call, TailCall, Return, Routine, Hold, Unhold, Room}
 use Rattle.rv_isa.specs.declared.placed.Listed.{Listed}
 use Rattle.rv_isa.specs.declared.placed.Operand.{Operand}
 use Rattle.rv_isa.specs.PlacedCode.{PlacedLine, does, moves, PlacedLines}
@@ -203,6 +203,8 @@ module _ (extra : ℕ) where
         served_few credit into (g ∷ gs) (kept_by (Routine routine) registers) (m.serve routine words (top (g ∷ gs)) shared) (few, omega (arith, here, paid))
     acts_few Hold g gs registers shared args into words few here fits paid = holds_few g gs registers shared args into words few here fits paid
     acts_few Unhold g gs registers shared args into words few here fits paid = takes_few g gs registers shared args into words few here fits paid
+    acts_few Room g gs registers shared args into words few here fits paid =
+        cond_few credit (nat_le depth (length (g ∷ gs))) (ended m.stack_full shared) (placed_goes g gs registers shared) tt (few, omega (arith, here, paid))
 
     -- a statement leads to such code, and pays for the stores behind it
     pub statement_few : (alive : List Listed) (action : Action) (args : List Operand) (into : Option Operand) (rest : List PlacedLine) (g : Frame PlacedLine) (gs : List (Frame PlacedLine)) (registers : ℕ → Option ℕ) (shared : H)

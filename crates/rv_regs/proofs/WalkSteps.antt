@@ -7,7 +7,7 @@ use Rattle.std.proofs.lemmas.List.Elements.{All-nil, All-cons}
 use Rattle.kk_base.specs.Limits.{greatest_of}
 use Rattle.kk_base.specs.declared.limit.LimitKind.TheVariants.{Parameters}
 use Rattle.rv_isa.specs.declared.asm.Action.{Action}
-use Rattle.rv_isa.specs.declared.asm.Action.TheVariants.{Compute, Label, Jump, Branch, Call, TailCall, Return, Routine, Hold, Unhold}
+use Rattle.rv_isa.specs.declared.asm.Action.TheVariants.{Compute, Label, Jump, Branch, Call, TailCall, Return, Routine, Hold, Unhold, Room}
 use Rattle.rv_isa.specs.declared.asm.Statement.{Statement}
 use Rattle.rv_isa.specs.declared.placed.Item.{Item}
 use Rattle.rv_isa.specs.declared.placed.Listed.{Listed}
@@ -55,6 +55,7 @@ behind_same (Call f) next next' at_label at_label' same sames = same
 behind_same (Routine routine) next next' at_label at_label' same sames = same
 behind_same Hold next next' at_label at_label' same sames = same
 behind_same Unhold next next' at_label at_label' same sames = same
+behind_same Room next next' at_label at_label' same sames = same
 
 drop_is : {A : Type 0} (ls : List A) (i j : ℕ) (l : A) → i < length ls → l ≡ get_or ls i l → j ≡ suc i → drop i ls ≡ l ∷ drop j ls
 drop_is {A} ls i j l lt is next = drop-cons ls i l lt ∙ ap (λ (x : A). x ∷ drop (suc i) ls) (sym is) ∙ ap (λ k. l ∷ drop k ls) (sym next)

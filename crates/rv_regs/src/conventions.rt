@@ -47,7 +47,7 @@ fn takes(action: Action, index: usize, place: Place) -> bool
 {
     match action {
         Action::Compute(_) | Action::Branch(..) => is_any_register(place),
-        Action::Label(_) | Action::Jump(_) => false,
+        Action::Label(_) | Action::Jump(_) | Action::Room => false,
         Action::Call(_) | Action::TailCall(_) | Action::Return => { is_argument(index, place) }
         Action::Routine(routine) => place.is_in_any(routine.takes(index)),
         Action::Hold if index > 0 => is_any_register(place),

@@ -505,7 +505,7 @@ fn prepare(
             fetch(alloc, walk, &statement.args, before)
         }
         Action::Unhold => store_all(alloc, walk, &statement.args),
-        Action::Label(_) | Action::Jump(_) => Ok(()),
+        Action::Label(_) | Action::Jump(_) | Action::Room => Ok(()),
     }
 }
 
@@ -543,8 +543,8 @@ fn put_due(
     Ok(())
 }
 
-// Where too many moves stand before a statement, some of their values are due before the last one, or before the one that leads to
-// the label that is the last one; or as soon as they are there, where that does not do.
+// Where too many moves stand before a statement, some of these values move earlier: before the statement in front of it, or, if
+// that is a label with one branch to it, before this branch. Where that is not enough, they move as soon as they are there.
 fn blame(alloc: Global, walk: &mut Walk, args: &[u32], care: &Care) -> Result<(), NoMemory> {
     if walk.excess == 0 {
         return Ok(());
@@ -559,8 +559,8 @@ fn blame(alloc: Global, walk: &mut Walk, args: &[u32], care: &Care) -> Result<()
     Ok(())
 }
 
-// The values that are due before the next statement go to their slots, if they have to be there at some point, or to another
-// register, or one that is not soon spoilt has a copy.
+// Moves the values that have to move before the next statement: to a slot, if a value has to come to its slot in any case; else to a
+// register that keeps it; else a register that is not spoilt soon gets a copy of it.
 fn pay(alloc: Global, walk: &mut Walk, plan: &Plan, care: &Care) -> Result<(), NoMemory> {
     for due in &care.due {
         if due.index == walk.index {
@@ -587,7 +587,7 @@ fn label_ahead(is_reached: bool, action: Action) -> Option<u32> {
     }
 }
 
-// The index that is that of the last statement behind this one: that of the one that leads to a label, where one way alone does.
+// The index of the statement in front of the next one: behind a label with one branch to it, the index of that branch.
 fn last_behind(walk: &Walk, action: Action, plans: &Plans) -> Option<usize> {
     match action {
         Action::Label(label) if is_one_of(label, &plans.lone) => index_from(&walk.kept, label),

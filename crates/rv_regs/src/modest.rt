@@ -242,6 +242,7 @@ fn length_of_action(action: Action) -> u32
         Action::Routine(routine) => length_of_routine(routine),
         Action::Hold => 5,
         Action::Unhold => 3,
+        Action::Room => 4,
     }
 }
 

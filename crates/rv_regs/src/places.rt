@@ -202,6 +202,7 @@ pub fn same_action(a: Action, b: Action) -> bool
         (Action::Routine(p), Action::Routine(q)) => same_routine(p, q),
         (Action::Hold, Action::Hold) => true,
         (Action::Unhold, Action::Unhold) => true,
+        (Action::Room, Action::Room) => true,
         _ => false,
     }
 }

@@ -63,7 +63,8 @@ pub struct Plan {
     pub crossing: Vec<u32>,
     /// The values that are alive at a later label to which more than one way leads, before any call.
     pub joining: Vec<u32>,
-    /// The values that lines other than copies compute with on some way on from here, before any call and any routine but take.
+    /// The values that lines other than copies compute with or branch by on some way on from here, before any call and any routine but
+    /// take.
     pub read: Vec<u32>,
     pub wishes: Vec<Wish>,
     /// The next labels on the way on from here.

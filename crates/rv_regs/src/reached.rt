@@ -16,8 +16,8 @@ use crate::keeps::Execution;
 
 /// A valid placed form comes to each line of its assembler form.
 ///
-/// Each statement that is always an instruction has a line of its own in the placed form, which is one too, and is no test where
-/// the statement is none. Where the machine of the assembler form comes to the statement, that of the placed form comes to its line,
+/// Each statement that is always an instruction has a line of its own in the placed form, which is one too, and is an own line where
+/// the statement is one. Where the machine of the assembler form comes to the statement, that of the placed form comes to its line,
 /// with the same events before, and their primitives share the same. For each state that goes on it comes to one that has the same
 /// events before and shares the same, and whose frames stand for those of that state, with their values and what they hold. It is a
 /// law, and does nothing.

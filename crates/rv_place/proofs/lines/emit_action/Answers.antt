@@ -1,5 +1,6 @@
+use Rattle.std.proofs.Common.{refl}
 use Rattle.rv_place.proofs.Emissions.{on_so}
-use Rattle.rv_place.proofs.LineInstructions.{on_operation, on_jump, on_branch, on_call, on_tail_call, on_return, on_routine, on_hold, on_unhold}
+use Rattle.rv_place.proofs.LineInstructions.{on_operation, on_jump, on_branch, on_call, on_tail_call, on_return, on_routine, on_hold, on_unhold, on_room}
 use Rattle.rv_place.proofs.lines.emit_action.Goals as goal
 
 pub returns-in-Compute : goal.returns-in-Compute
@@ -55,3 +56,9 @@ returns-in-Unhold c =
     on_so c.emit_unhold.result
     (on_unhold c.args.chart.now c.args.labels.now c.args.at c.args.args.now c.args.into c.in-Unhold.is c.token_into.ensures c.requires.slots)
     c.emit_unhold.ensures
+
+pub returns-in-Room : goal.returns-in-Room
+returns-in-Room c =
+    on_so c.emit_test.result
+    (on_room c.args.chart.now c.args.labels.now c.args.at c.args.args.now c.args.into c.in-Room.is c.requires.same refl)
+    c.emit_test.ensures

@@ -1,0 +1,4 @@
+pub mod InLine
+pub mod Relation
+pub mod InLineLines
+pub mod Growth
