@@ -19,7 +19,7 @@ abbrev pub values_in : Option ℕ → List ℕ
 values_in None = []
 values_in (Some value) = value ∷ []
 
--- a line calls a leaf with these lines that compute, which gives this value back, and its result goes there
+-- A line calls a leaf with this body and value, and the result goes to a value of the caller.
 pub record IsCallOf (functions : List Lines) (line : Line) (body : List Line) (value into : ℕ) : Type 0 where
   pub function : ℕ
   pub leaf : Lines
@@ -30,7 +30,8 @@ pub record IsCallOf (functions : List Lines) (line : Line) (body : List Line) (v
   pub passes : length line.args ≡ length leaf.params
   pub short : AreShort body
 
--- What a line of a function becomes: itself, or the lines in its place, where the code may grow by so much before it and behind.
+-- What a line of a function becomes: itself, or the lines in its place. Before it the code may grow by so many instructions, and behind
+-- it by as many as are left.
 pub record Becomes (functions : List Lines) (base : ℕ) (line : Line) (before : ℕ) (lines : List Line) (behind : ℕ) : Type 0 where
   pub is : (lines ≡ line ∷ []) ⊎ ((call : IsLeafCall functions base line) × (lines ≡ lines_for line call []))
   pub grows : code_length lines + behind ≤ line_length line + before

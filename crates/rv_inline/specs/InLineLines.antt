@@ -1,4 +1,4 @@
--- Which line of code with calls in line is a line of the code.
+-- Where in code with calls in line each line of the code stands.
 use Rattle.std.specs.Prelude.{ℕ, zero, suc, ◌+◌, List, [], ◌∷◌, Option, Some, None, Bool, true, false, cond, drop, length, slice_get}
 use Rattle.rv_isa.specs.declared.asm.Action.{Action}
 use Rattle.rv_isa.specs.declared.asm.Action.TheVariants.{Call, Room}
@@ -12,22 +12,22 @@ abbrev pub begins_with_room : List Line → Bool
 begins_with_room [] = false
 begins_with_room (line ∷ lines) = is_room line.action
 
--- a function has as many lines
+-- how many lines a function has
 abbrev pub lines_in : Option Lines → ℕ
 lines_in None = 0
 lines_in (Some function) = length function.code
 
--- How many lines stand in place of a call that is in line: one more than its callee has, since the last one stands for its return. In
--- place of any other line stands one.
+-- How many lines stand in place of a line. For a call in line it is one more than its function has: the one that asks for room comes
+-- first, and the copy stands in place of the return. Any other line stays one.
 abbrev pub width_of : List Lines → Action → Bool → ℕ
 width_of functions (Call g) room = cond room (suc (lines_in (slice_get functions g))) 1
 width_of functions action room = 1
 
--- how many lines a line of the code has become, with which this code begins
+-- the same of a line that has become the first lines of this code
 abbrev pub width : List Lines → Line → List Line → ℕ
 width functions line new = width_of functions line.action (begins_with_room new)
 
--- the index in code with calls in line of the k-th line of the code; a call in line begins with the room that it asks for
+-- The index in code with calls in line of the k-th line of the code. Of a call in line it is that of the line that asks for room.
 abbrev pub index_in : List Lines → ℕ → List Line → List Line → ℕ
 index_in functions k [] new = 0
 index_in functions zero (line ∷ old) new = 0
@@ -38,6 +38,6 @@ abbrev pub index_by : List Lines → ℕ → Option Lines → Option Lines → �
 index_by functions k (Some old) (Some new) = index_in functions k old.code new.code
 index_by functions k _ _ = 0
 
--- and of the k-th line of the function f
+-- and of the k-th line of the function f of a program
 abbrev pub line_in_line : List Lines → List Lines → ℕ → ℕ → ℕ
 line_in_line q q' f k = index_by q k (slice_get q f) (slice_get q' f)

@@ -18,8 +18,9 @@ Copies {H = H} m = (word : ℕ) (shared : H) → m.compute Mv (word ∷ []) shar
 abbrev pub SameBelow : ℕ → (ℕ → Option ℕ) → (ℕ → Option ℕ) → Type 0
 SameBelow base some other = (x : ℕ) → x < base → other x ≡ some x
 
--- Two frames, but for the code that is left and for where a result goes. They run a function of q, whose values are below a number,
--- and one of q', which is that with some calls in line; they have the same in these values, and hold the same tokens.
+-- Two frames, apart from the code that is left and from where a result goes. The one runs a function of q, whose values are below the
+-- base, and the other the function of q' that is the same with some calls in line. The values below the base have the same words in both,
+-- and both hold the same tokens.
 pub record IsLike (q q' : List Lines) (base : ℕ) (f g : Frame Line) : Type 0 where
   pub old : Lines
   pub new : Lines
@@ -33,8 +34,8 @@ pub record IsLike (q q' : List Lines) (base : ℕ) (f g : Frame Line) : Type 0 w
   pub held : g.held ≡ f.held
   pub held_below : AreValuesBelow base f.held
 
--- The code that is left of a function, and of the one with calls in line, by the whole of both: it is left behind so many lines of the
--- function.
+-- Two frames are at the same line. What is left of the function is its code behind so many lines, and what is left of the one with calls
+-- in line is that behind what these lines have become.
 pub record IsAtLine (q : List Lines) (base : ℕ) (whole whole' code new : List Line) : Type 0 where
   pub below : AreLinesBelow base code
   pub is : AreInLine q base code new
@@ -42,7 +43,7 @@ pub record IsAtLine (q : List Lines) (base : ℕ) (whole whole' code new : List 
   pub code_is : code ≡ drop line whole
   pub new_is : new ≡ drop (index_in q line whole whole') whole'
 
--- the frames that wait
+-- the frames that wait for the result of a call
 abbrev pub AllWait : List Lines → List Lines → List (Frame Line) → List (Frame Line) → Type 0
 AllWait q q' [] [] = Unit {0}
 AllWait q q' [] (g ∷ gs) = ⊥
@@ -57,7 +58,8 @@ FramesStand q q' [] (g ∷ gs) = ⊥
 FramesStand q q' (f ∷ fs) [] = ⊥
 FramesStand q q' (f ∷ fs) (g ∷ gs) = ((base : ℕ) × (IsLike q q' base f g × IsAtLine q base f.whole g.whole f.code g.code)) × AllWait q q' fs gs
 
--- A leaf runs, in a frame of its own and in line: h is its frame, over that of the caller, for which g stands.
+-- A leaf runs: in the code in a frame of its own, h, above the frame f of its caller; in the code with calls in line in the frame g of
+-- the caller. The same lines of it are left in both.
 pub record IsInCall (q : List Lines) (base : ℕ) (h f g : Frame Line) : Type 0 where
   pub args : List ℕ
   pub body : List Line
@@ -78,7 +80,7 @@ abbrev pub FramesInCall : List Lines → List Lines → List (Frame Line) → Li
 FramesInCall q q' (h ∷ f ∷ fs) (g ∷ gs) = ((base : ℕ) × (IsLike q q' base f g × IsInCall q base h f g)) × AllWait q q' fs gs
 FramesInCall q q' _ _ = ⊥
 
--- For a state that can do nothing more, any stands.
+-- Any state stands for one that can do nothing more.
 abbrev pub StandsFor : {H W : Type 0} → List Lines → List Lines → AsmTurn H W → AsmTurn H W → Type 0
 StandsFor q q' (go s) (go t) = (FramesStand q q' s.frames t.frames ⊎ FramesInCall q q' s.frames t.frames) × (t.shared ≡ s.shared)
 StandsFor q q' (go s) (ended how shared) = ⊥
@@ -92,7 +94,7 @@ StandsFor q q' stuck t = ⊤
 abbrev pub NeverStuck : {H E W : Type 0} → Primitives H E W → ℕ → List Lines → AsmTurn H W → Type 0
 NeverStuck m depth q s = (n : ℕ) → state (asm_machine m depth q) n s ≢ stuck
 
--- what the simulation keeps: each step is one of both machines
+-- What the simulation keeps. Each step of the one machine is one step of the other, so it needs no credit.
 abbrev pub Related : {H E W : Type 0} → Primitives H E W → ℕ → List Lines → List Lines → ℕ → ℕ → AsmTurn H W → AsmTurn H W → Type 0
 Related m depth q q' credit idle s t = NeverStuck m depth q s × StandsFor q q' s t
 

@@ -29,12 +29,15 @@ pub trait Execution {
 /// Code with calls in line means what the code means.
 ///
 /// Its machine simulates that of the code step by step, and no step weighs more. From the start of the first function on both tell the
-/// same events and end alike. A run of the code must never come to a state in which it can do nothing more; then one of the code with
-/// calls in line comes to none either. For each state of the one that goes on the other comes to one that has told the same and shares
-/// the same, and whose frames stand for those of that state, with their values and what they hold: a leaf that runs in a frame of its
-/// own runs in that of its caller there. Each line of the code that is its own has one in the other code, a call in line the one that
-/// asks for the room of its frame. Where the one is at such a line, the other comes to that, with the same told and shared. Where
-/// code is well formed, so is that with calls in line, and a function names at most `most_fresh` values more. It is a law, and does
+/// same events and end alike. The code must never come to a state in which it can do nothing more. Then the code with calls in line comes
+/// to none either.
+///
+/// For each state in which the code goes on, the other code comes to a state with the same events told and the same shared. Its frames
+/// stand for those of that state, with their values and what they hold: a leaf that runs in a frame of its own in the one runs in the
+/// frame of its caller in the other. Each own line of the code has an own line in the other code; of a call in line it is the line that
+/// asks for the room of a frame. Where the code is at an own line, the other code comes to that line, with the same told and shared.
+///
+/// Where code is well formed, so is that with calls in line, and a function names at most `most_fresh` values more. It is a law, and does
 /// nothing.
 pub fn calls_in_line_keep_meaning<M: Execution>()
     ensures simulates { (q q' : List Lines) (depth : ℕ) → HasInLine q q'

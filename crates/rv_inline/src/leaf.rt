@@ -1,4 +1,4 @@
-// Leaves: functions that compute a value from their parameters alone, straight on.
+// Leaves: functions that compute a value from their parameters alone, one line after the other.
 
 ghost use Rattle.std.specs.Prelude.{◌≡◌, ◌≤◌, ◌++◌, [], ◌∷◌, IsTrue, IfSome, length, map};
 ghost use Rattle.rv_isa.specs.AsmCode.{line_of, lines_of};
@@ -8,7 +8,7 @@ ghost use Rattle.rv_inline.specs.Growth.{AreShort};
 
 use rv_isa::{Action, AsmFunction, Operation, Statement};
 
-/// The most values of a leaf that are no parameters.
+/// The most values of a leaf besides its parameters.
 const MOST_FRESH: usize = 7;
 
 /// The most lines of a leaf.

@@ -1,4 +1,4 @@
-//! Calls of small functions in line: the assembler form of a program, in another one that does the same with fewer calls.
+//! Calls of small functions in line: from the assembler form of a program to one that does the same with fewer calls.
 #![tactic(auto)]
 
 mod counting;
