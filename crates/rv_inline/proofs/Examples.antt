@@ -1,11 +1,10 @@
 -- A call of a small function, put in line: the function doubles its argument.
-use Rattle.std.proofs.Common.{◌≡◌, ◌≤◌, inl, inr, ℕ, List, [], ◌∷◌, Some, None, refl, arith}
+use Rattle.std.proofs.Common.{◌≡◌, inl, inr, [], ◌∷◌, Some, None, refl, arith}
 use Rattle.rv_isa.specs.declared.asm.Action.TheVariants.{Compute, Call, Return}
 use Rattle.rv_isa.specs.declared.asm.Operation.TheVariants.{Register, Li}
 use Rattle.rv_isa.specs.declared.asm.RegisterOperation.TheVariants.{Add}
 use Rattle.rv_isa.specs.AsmCode.{Line, Lines}
-use Rattle.rv_isa.specs.ValueBounds.{HasValuesBelow}
-use Rattle.rv_inline.specs.InLine.{room, copy, in_line, IsLeaf, IsLeafCall, AreInLine, HasInLine}
+use Rattle.rv_inline.specs.InLine.{room, copy, in_line, IsLeaf, IsLeafCall, HasInLine}
 use Rattle.rv_inline.specs.InLineLines.{line_in_line}
 
 abbrev double : Lines

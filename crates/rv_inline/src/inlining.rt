@@ -5,7 +5,7 @@ ghost use Rattle.rv_isa.specs.AsmCode.{Line, line_of, lines_of, asm_functions, a
 ghost use Rattle.rv_isa.specs.Costs.{code_length, functions_length};
 ghost use Rattle.rv_isa.specs.ValueBounds.{AreValuesBelow, IsWrittenBelow, IsLineBelow, AreLinesBelow};
 ghost use Rattle.rv_isa.specs.WellFormed.{most_values};
-ghost use Rattle.rv_inline.specs.InLine.{named, named_line, in_line, most_fresh, AreInLine, IsInLine, HaveInLine, HasInLine};
+ghost use Rattle.rv_inline.specs.InLine.{named, named_line, in_line, most_fresh, AreInLine, IsInLine, HasInLine};
 ghost use Rattle.rv_inline.specs.Growth.{most_growth, values_in, IsCallOf, Becomes};
 
 use crate::counting::count_of_values;

@@ -3,7 +3,7 @@
 ghost use Rattle.std.specs.Prelude.{◌≡◌, ◌≤◌, ◌++◌, [], ◌∷◌, IsTrue, IfSome, length, map};
 ghost use Rattle.rv_isa.specs.AsmCode.{line_of, lines_of};
 ghost use Rattle.rv_isa.specs.ValueBounds.{AreValuesBelow, IsWrittenBelow, IsLineBelow, AreLinesBelow};
-ghost use Rattle.rv_inline.specs.InLine.{is_pure, computes, IsWrittenFrom, IsComputing, AreComputing, AreFrom, gives_back, IsLeaf};
+ghost use Rattle.rv_inline.specs.InLine.{is_pure, computes, IsWrittenFrom, AreComputing, AreFrom, gives_back, IsLeaf};
 ghost use Rattle.rv_inline.specs.Growth.{AreShort};
 
 use rv_isa::{Action, AsmFunction, Operation, Statement};
