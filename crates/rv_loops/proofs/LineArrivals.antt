@@ -15,19 +15,19 @@ use Rattle.rv_isa.specs.Frames.{Frame}
 use Rattle.rv_isa.specs.LinePlaces.{is_made, is_load, is_always_some, is_own_line, is_instruction, IsBehindLines, IsAtFrame}
 use Rattle.rv_isa.specs.LinePlaces.{PlacedIsAt, PlacedHasLine, PlacedHasOwnLine}
 use Rattle.rv_isa.specs.PlacedCode.{PlacedLine, does, moves, PlacedLines}
-use Rattle.rv_isa.specs.PlacedMachine.{PlacedState, PlacedTurn, placed_machine, placed_start}
+use Rattle.rv_isa.specs.PlacedMachine.{PlacedTurn, placed_machine, placed_start}
 use Rattle.rv_isa.specs.Primitives.{Primitives, go, ended, stuck}
 use Rattle.rv_isa.proofs.OwnActions.{own_is_some}
 use Rattle.rv_loops.specs.Rotation.{HasOpposites, ComputesAlone, Loop, is_straight_action, is_straight, AreStraight, is_call_of}
-use Rattle.rv_loops.specs.Rotation.{test, mark, goes_on, leaves, rotated_line, rotated_lines, code_of, rotated_code, IsRotated}
+use Rattle.rv_loops.specs.Rotation.{test, mark, goes_on, leaves, rotated_lines, code_of, rotated_code, IsRotated}
 use Rattle.rv_loops.specs.Rotation.{AreRotated}
-use Rattle.rv_loops.specs.Relation.{Spot, IsLike, IsAtSame, IsInTurn, IsBeforeTest, FramesStand, StandsFor, NeverStuck, Related}
+use Rattle.rv_loops.specs.Relation.{IsLike, IsAtSame, IsInTurn, IsBeforeTest, FramesStand, StandsFor, NeverStuck, Related}
 use Rattle.rv_loops.specs.Relation.{IsNotStuck}
 use Rattle.rv_loops.specs.RotatedLines.{head_length, index_in, index_of, index_by, rotated_line_of}
 use Rattle.rv_loops.proofs.MachineKnowledge.{same_some}
 use Rattle.rv_loops.proofs.Places.{callee_both}
 use Rattle.rv_loops.proofs.OwnLines.{head_length_is, own_lines, index_at, index_apart}
-use Rattle.rv_loops.proofs.LineCopies.{IsOn, Passes, passes_straight}
+use Rattle.rv_loops.proofs.LineCopies.{Passes, passes_straight}
 use Rattle.rv_loops.proofs.Simulation.{simulates}
 use Rattle.rv_loops.proofs.StartStates.{starts, never_stuck}
 
