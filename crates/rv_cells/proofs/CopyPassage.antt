@@ -45,12 +45,13 @@ module _ (constants : Constants) (pool : Pool) (depth : ℕ) (functions : List L
     whole : frame.whole ≡ f.whole
     code : frame.code ≡ left
 
-  -- behind a word that is made
+  -- the frame goes on with the lines left and a word that is made, if it is there
+  abbrev goes_with : Frame Line → List (Frame Line) → World → Option ℕ → List Line → Option ℕ → AsmTurn World Ending
+  goes_with f fs world into rest word = or_stuck {A = ℕ × World} (option_map (λ w. (w, world)) word)
+      (λ r. asm_goes (record f { code = rest; cells = put_into into r.0 f.cells }) fs r.1)
+
   made : (f : Frame Line) (fs : List (Frame Line)) (world : World) (into : Option ℕ) (rest : List Line) (word : Option ℕ)
-      → or_stuck {W = Ending} (option_map (λ w. (w, world)) word)
-      (λ r. asm_goes (record f { code = rest; cells = put_into into r.0 f.cells }) fs r.1) ≢ stuck
-      → GoesOn f rest fs world
-      (or_stuck (option_map (λ w. (w, world)) word) (λ r. asm_goes (record f { code = rest; cells = put_into into r.0 f.cells }) fs r.1))
+      → goes_with f fs world into rest word ≢ stuck → GoesOn f rest fs world (goes_with f fs world into rest word)
   made f fs world into rest None good = absurd (good refl)
   made f fs world into rest (Some word) good = record { frame = _; is = refl; function = refl; whole = refl; code = refl }
 

@@ -67,7 +67,7 @@ use Rattle.rv_cells.specs.CountedLines.{
   NodesLines,
 }
 use Rattle.rv_cells.specs.TokenedWritten.{take_line, request_lines, StoreLines, WroteFill}
-use Rattle.rv_cells.specs.Written.{TestsCount, LowersCount, LoadsTag, WroteOpening}
+use Rattle.rv_cells.specs.Written.{TestsCount, LowersCellCount, LoadsTag, WroteOpening}
 
 pub three_same : {a b c d e f : Line} → a ≡ b → c ≡ d → e ≡ f → a ∷ c ∷ e ∷ [] ≡ b ∷ d ∷ f ∷ []
 three_same {a} {b} {c} {d} {e} {f} first second third = cc (first, second, third)
@@ -208,8 +208,8 @@ module _ {holds : ℕ → Bool} {x : ℕ} {fields used : List ℕ} {token : ℕ}
       → AllLoads x first_field fields loads → WroteLines (TestsCount c.base shared x) c d → Wrote loads d e
       → Wrote (drops_lines holds (filter (λ y. not (is_among used y)) fields)) e f → Wrote (token_ends into x token behind
       (behind + 1)) f g
-      → Wrote (acts (Label shared) [] ∷ []) g h → Wrote (sets 0 token ∷ []) h i → Wrote loads i j → WroteLines (LowersCount j.base
-      x) j k
+      → Wrote (acts (Label shared) [] ∷ []) g h → Wrote (sets 0 token ∷ []) h i → Wrote loads i j
+      → WroteLines (LowersCellCount j.base x) j k
       → Wrote (dups_lines holds (filter (is_among used) fields)) k l → Wrote (acts (Label behind) [] ∷ []) l m
       → WroteOpening holds x fields used token into a m
   opening_written {shared} {behind} {loads} {a} {b} {c} {d} {e} {f} {g} {h} {i} {j} {k} {l} {m} first second all test one
@@ -263,8 +263,8 @@ module _ {holds : ℕ → Bool} {x : ℕ} {fields used : List ℕ} {token : ℕ}
       test_own : TestsCount a.base shared x test.lines
       test_own = subst (λ n. TestsCount n shared x test.lines) at_c test.are
 
-      less_own : LowersCount a.base x less.lines
-      less_own = subst (λ n. LowersCount n x less.lines) at_j less.are
+      less_own : LowersCellCount a.base x less.lines
+      less_own = subst (λ n. LowersCellCount n x less.lines) at_j less.are
 
       tested : List Line
       tested = test_own.0 ∷ sets 1 (a.base + 1) ∷ acts (Branch NotEqual shared) (a.base ∷ (a.base + 1) ∷ []) ∷ []

@@ -78,8 +78,8 @@ TestsCount base shared x lines =
     × (lines ≡ test ∷ sets 1 (base + 1) ∷ acts (Branch NotEqual shared) (base ∷ (base + 1) ∷ []) ∷ [])
 
 -- the count of a cell is lowered
-abbrev pub LowersCount : ℕ → ℕ → List Line → Type 0
-LowersCount base x lines =
+abbrev pub LowersCellCount : ℕ → ℕ → List Line → Type 0
+LowersCellCount base x lines =
     (count : Line) × (less : Immediate) × (store : Line) × Loads x 0 base count × (less.word ≡ 2 ^ 32 - 1) × Stores x 0 base store
     × (lines ≡ count ∷ computes (Op.Immediate Addi less) (base ∷ []) base ∷ store ∷ [])
 

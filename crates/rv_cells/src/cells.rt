@@ -6,7 +6,7 @@ ghost use Rattle.rv_lower.specs.Written.{short_line, Wrote, WroteLines};
 ghost use Rattle.rv_cells.specs.CellLines.{Loads, Stores, AllLoads, AllStores, dup_lines, drop_lines, dups_lines, drops_lines};
 ghost use Rattle.rv_cells.specs.CellLines.{SomeStores, SetIf, SomeWords, is_kept, ConstructLines, ReadLines, token_ends};
 ghost use Rattle.rv_cells.specs.TokenedWritten.{variables_known, StoreLines, PushedStore, is_left};
-ghost use Rattle.rv_cells.specs.Written.{holds_known, TestsCount, LowersCount, WroteOpening};
+ghost use Rattle.rv_cells.specs.Written.{holds_known, TestsCount, LowersCellCount, WroteOpening};
 ghost use Rattle.rv_cells.specs.Layout.{first_field};
 
 use crate::standing::Known;
@@ -357,7 +357,7 @@ fn write_end(
 
 /// Lowers the count of a cell.
 fn write_less(lowering: &mut Lowering, cell: u32) -> Result<(), NoMemory>
-    ensures { OnOk result (WroteLines (LowersCount lowering.old.base cell) lowering.old lowering.new) }
+    ensures { OnOk result (WroteLines (LowersCellCount lowering.old.base cell) lowering.old lowering.new) }
 {
     let count = lowering.base;
     let (first, last) = (load(cell, COUNT, count)?, store(cell, COUNT, count)?);
