@@ -1,5 +1,5 @@
 -- Openings by the count of the cell, as lines: on each way, up to what is done with the cell.
-use Rattle.std.proofs.Common.{◌≡◌, ◌≢◌, ◌<◌, ◌≤◌, ℕ, suc, ◌+◌, ◌*◌, true, false, not, inl, inr, List, [], ◌∷◌, ◌++◌, length, Option, Some, nat_eq, refl, sym, ◌∙◌, ap, subst, arith, append_assoc}
+use Rattle.std.proofs.Common.{◌≡◌, ◌≢◌, ◌<◌, ◌≤◌, ℕ, suc, ◌+◌, ◌*◌, true, false, not, inl, inr, List, [], ◌∷◌, ◌++◌, length, Option, Some, None, nat_eq, refl, sym, ◌∙◌, ap, subst, arith, append_assoc}
 use Rattle.std.specs.Prelude.{filter}
 use Rattle.std.proofs.lemmas.Bool.{cases_eq}
 use Rattle.std.proofs.lemmas.Bool.Decides.{nat_tests}
@@ -15,19 +15,21 @@ use Rattle.kk_counted.specs.Spending.{AreApart}
 use Rattle.kk_counted.proofs.CountChanges.{set_length, count_set, kept_weight, freed_weight}
 use Rattle.kk_counted.proofs.Variables.{field_past}
 use Rattle.rv_isa.specs.declared.asm.Action.TheVariants.{Label, Jump, Branch}
-use Rattle.rv_isa.specs.declared.asm.Condition.TheVariants.{NotEqual}
 use Rattle.rv_isa.specs.declared.asm.Operation.TheVariants as Op
 use Rattle.rv_isa.specs.declared.asm.ImmediateOperation.TheVariants.{Addi}
 use Rattle.rv_isa.specs.Arithmetic.{sum_word}
 use Rattle.rv_isa.specs.AsmCode.{Line}
-use Rattle.rv_isa.specs.AsmMachine.{is_label}
+use Rattle.rv_isa.specs.AsmMachine.{AsmTurn, is_label}
+use Rattle.rv_isa.specs.Processor.{Ending}
 use Rattle.rv_isa.specs.Frames.{Frame, found}
 use Rattle.cell_heap.specs.Blocks.{Cells, own, with_block, with_word}
 use Rattle.cell_runtime.specs.World.{World, with_cells}
-use Rattle.rv_lower.specs.Lines.{computes, sets, acts}
+use Rattle.cell_runtime.specs.Operations.{compares}
+use Rattle.rv_lower.specs.Lines.{computes, sets, copies_to, acts}
 use Rattle.rv_cells.specs.Layout.{word_in, words_in, header_of, first_field}
 use Rattle.rv_cells.specs.CountedCells.{AreFrom, Owner, cell_of, in_hand, IsCellOf, with_owner, is_aside}
-use Rattle.rv_cells.specs.CellLines.{CountLines, dups_lines, drops_lines}
+use Rattle.rv_cells.specs.CellLines.{dups_lines, drops_lines, TokenUniqueLines}
+use Rattle.rv_cells.specs.CellLines.{alone_lines, first_way, second_way, goes_second, leaving_lines}
 use Rattle.rv_cells.proofs.NameContents.{some-is, held_other, held_count}
 use Rattle.rv_cells.proofs.Owners.{chosen_same, chosen_other}
 use Rattle.rv_cells.proofs.Words.{load_own, store_own, cell_named, recount, opened_unique}
@@ -70,17 +72,18 @@ pub record CountOpening (known : Known) : Type 0 where
   pub c : ℕ
   pub fields : List ℕ
   pub used : List ℕ
-  pub ends : List Line
-  pub begins : List Line
-  pub shared : ℕ
+  pub token : ℕ
+  pub into : Option ℕ
+  pub second : ℕ
   pub behind : ℕ
+  pub filled : ℕ
   pub lines : List Line
   pub named : Named
   pub next : Heap
   pub here : Here known s
   pub reads : IsReading known s x c fields named
   pub apart : AreApart fields
-  pub uniques : CountLines known.base known.holds shared behind x fields used ends begins lines
+  pub uniques : TokenUniqueLines known.base known.holds second behind filled x fields used token into lines
 
 module _ (known : Known) (o : CountOpening known) where
   abbrev rest : List Line
@@ -104,17 +107,17 @@ module _ (known : Known) (o : CountOpening known) where
   abbrev used : List ℕ
   used = o.used
 
-  abbrev ends : List Line
-  ends = o.ends
+  abbrev token : ℕ
+  token = o.token
 
-  abbrev begins : List Line
-  begins = o.begins
-
-  abbrev shared : ℕ
-  shared = o.shared
+  abbrev second : ℕ
+  second = o.second
 
   abbrev behind : ℕ
   behind = o.behind
+
+  abbrev filled : ℕ
+  filled = o.filled
 
   abbrev lines : List Line
   lines = o.lines
@@ -134,7 +137,7 @@ module _ (known : Known) (o : CountOpening known) where
   abbrev apart : AreApart fields
   apart = o.apart
 
-  abbrev uniques : CountLines known.base known.holds shared behind x fields used ends begins lines
+  abbrev uniques : TokenUniqueLines known.base known.holds second behind filled x fields used token o.into lines
   uniques = o.uniques
 
   abbrev pub tested : Line
@@ -155,27 +158,46 @@ module _ (known : Known) (o : CountOpening known) where
   abbrev pub lowers : List Line
   lowers = uniques.2 ∷ computes (Op.Immediate Addi uniques.3) (known.base ∷ []) known.base ∷ uniques.4 ∷ dups
 
-  abbrev pub for_shared : List Line
-  for_shared = acts (Label shared) [] ∷ (begins ++ (loads ++ lowers))
+  -- the way of a cell of one reference, and that of a cell of several
+  abbrev alone : List Line
+  alone = alone_lines known.holds x fields used token loads
 
-  abbrev pub for_unique : List Line
-  for_unique = loads ++ (drops ++ ends)
+  abbrev shared : List Line
+  shared = sets 0 token ∷ (loads ++ lowers)
 
-  -- the lines before the label of the second way, and those behind it
-  abbrev pub head_lines : List Line
-  head_lines = uniques.0 ∷ sets 1 (known.base + 1) ∷ acts (Branch NotEqual shared) (known.base ∷ (known.base + 1) ∷ [])
-      ∷ for_unique
+  -- which stands first, and which second, and how the first one ends
+  abbrev pub leaving : Option ℕ → List Line
+  leaving into = leaving_lines into token behind filled
 
-  abbrev pub shared_lines : List Line
-  shared_lines = begins ++ (loads ++ lowers)
+  abbrev pub second_lines : Option ℕ → List Line
+  second_lines into = second_way into alone shared
 
-  pub whole_lines : lines ++ rest ≡ tested ∷ sets 1 (known.base + 1) ∷ acts (Branch NotEqual shared)
-      (known.base ∷ (known.base + 1) ∷ []) ∷ (for_unique ++ (for_shared ++ ending))
+  abbrev pub for_second : Option ℕ → List Line
+  for_second into = acts (Label second) [] ∷ second_lines into
+
+  abbrev for_first : Option ℕ → List Line
+  for_first into = first_way into alone shared ++ leaving into
+
+  abbrev pub head_of : Option ℕ → List Line
+  head_of into = tested ∷ sets 1 (known.base + 1) ∷ acts (Branch (goes_second into) second) (known.base ∷ (known.base + 1) ∷ [])
+      ∷ for_first into
+
+  -- what stands behind each way
+  abbrev pub behind_alone : Option ℕ → List Line
+  behind_alone None = ending
+  behind_alone (Some made) = leaving (Some made) ++ (for_second (Some made) ++ ending)
+
+  abbrev pub behind_shared : Option ℕ → List Line
+  behind_shared None = leaving None ++ (for_second None ++ ending)
+  behind_shared (Some made) = ending
+
+  pub whole_lines : lines ++ rest ≡ head_of o.into ++ (for_second o.into ++ ending)
   whole_lines =
       ap (λ ls. ls ++ rest) uniques.10
-      ∙ ap (λ ls. tested ∷ sets 1 (known.base + 1) ∷ acts (Branch NotEqual shared) (known.base ∷ (known.base + 1) ∷ []) ∷ ls)
-      (append_assoc for_unique (for_shared ++ (acts (Label behind) [] ∷ [])) rest ∙ ap (λ ls. for_unique ++ ls)
-      (append_assoc for_shared (acts (Label behind) [] ∷ []) rest))
+      ∙ ap (λ ls. tested ∷ sets 1 (known.base + 1) ∷ acts (Branch (goes_second o.into) second)
+      (known.base ∷ (known.base + 1) ∷ []) ∷ ls)
+      (append_assoc (for_first o.into) (for_second o.into ++ (acts (Label behind) [] ∷ [])) rest
+      ∙ ap (λ ls. for_first o.into ++ ls) (append_assoc (for_second o.into) (acts (Label behind) [] ∷ []) rest))
 
   pub made : MadeBy c (length fields) s.heap (value_of s.environment x) named
   made = named_made c (length fields) s.heap (value_of s.environment x) named reads.is
@@ -257,16 +279,115 @@ module _ (known : Known) (o : CountOpening known) where
     pub function : frame.function ≡ s.frame.function
     pub held : frame.held ≡ s.frame.held
 
-  -- from a jump behind the opening
-  pub leaves : (frame : Frame Line) (world : World) → found (λ line. is_label behind line.action) frame.whole ≡ Some ending
-      → Runs known.target ((most_moves + 2) + (most_moves + 0)) (1 + 1)
-      (turn_of (acts (Jump behind) [] ∷ (for_shared ++ ending)) frame fs world) (turn_of rest frame fs world)
-  leaves frame world finds =
-      runs_then known.target (most_moves + 2) (most_moves + 0) 1 1
-      (turn_of (acts (Jump behind) [] ∷ (for_shared ++ ending)) frame fs world) (turn_of ending frame fs world)
-      (turn_of rest frame fs world)
-      (jump_runs known.target (for_shared ++ ending) frame fs world behind ending finds)
-      (label_runs known.target rest frame fs world behind)
+  -- ---- each way from the test, and behind it
+
+  abbrev pub Finds : ℕ → Frame Line → List Line → Type 0
+  Finds label frame there = found (λ line. is_label label line.action) frame.whole ≡ Some there
+
+  -- so many steps lead from a turn to another, at no more than this cost
+  record Steps (most : ℕ) (t u : AsmTurn World Ending) : Type 0 where
+    pub cost : ℕ
+    pub steps : ℕ
+    pub cheap : cost ≤ most
+    pub runs : Runs known.target cost steps t u
+
+  -- by the test the first way comes, or the second one
+  to_first : (into : Option ℕ) → compares (goes_second into) (count_at s.heap named.at) 1 ≡ false
+      → Steps (3 * most_moves + 7) (turn_of (head_of into ++ (for_second into ++ ending)) s.frame fs s.world)
+      (turn_of (first_way into alone shared ++ (leaving into ++ (for_second into ++ ending))) tests fs s.world)
+  to_first into fails =
+      let moves = most_moves in
+      let target = known.target in
+      let others = for_second into ++ ending in
+      let branch = acts (Branch (goes_second into) second) (known.base ∷ (known.base + 1) ∷ []) in
+      let t0 = turn_of (head_of into ++ others) s.frame fs s.world in
+      let t1 = turn_of (branch ∷ (for_first into ++ others)) tests fs s.world in
+      let t2 = turn_of (for_first into ++ others) tests fs s.world in
+      let falls = falls_runs target (for_first into ++ others) tests fs s.world (goes_second into) second known.base
+      (known.base + 1) (count_at s.heap named.at) 1 first_temporary second_temporary fails in
+      record {
+        cost = ((moves + 2) + (moves + 2)) + (moves + 3);
+        steps = (1 + 1) + 1;
+        cheap = omega arith;
+        runs = subst (λ ls. Runs target (((moves + 2) + (moves + 2)) + (moves + 3)) ((1 + 1) + 1) t0 (turn_of ls tests fs s.world))
+            (append_assoc (first_way into alone shared) (leaving into) others)
+            (runs_then target ((moves + 2) + (moves + 2)) (moves + 3) (1 + 1) 1 t0 t1 t2
+            (loads_count (branch ∷ (for_first into ++ others))) falls);
+      }
+
+  to_second : (into : Option ℕ) → compares (goes_second into) (count_at s.heap named.at) 1 ≡ true
+      → Finds second s.frame (for_second into ++ ending)
+      → Steps (4 * most_moves + 7) (turn_of (head_of into ++ (for_second into ++ ending)) s.frame fs s.world)
+      (turn_of (second_lines into ++ ending) tests fs s.world)
+  to_second into holds finds =
+      let moves = most_moves in
+      let target = known.target in
+      let others = for_second into ++ ending in
+      let branch = acts (Branch (goes_second into) second) (known.base ∷ (known.base + 1) ∷ []) in
+      let t0 = turn_of (head_of into ++ others) s.frame fs s.world in
+      let t1 = turn_of (branch ∷ (for_first into ++ others)) tests fs s.world in
+      let t2 = turn_of others tests fs s.world in
+      let t3 = turn_of (second_lines into ++ ending) tests fs s.world in
+      let jumps = branch_runs target (for_first into ++ others) tests fs s.world (goes_second into) second known.base
+      (known.base + 1) (count_at s.heap named.at) 1 others first_temporary second_temporary holds finds in
+      let enters = label_runs target (second_lines into ++ ending) tests fs s.world second in
+      record {
+        cost = ((moves + 2) + (moves + 2)) + ((moves + 3) + (moves + 0));
+        steps = (1 + 1) + (1 + 1);
+        cheap = omega arith;
+        runs = runs_then target ((moves + 2) + (moves + 2)) ((moves + 3) + (moves + 0)) (1 + 1) (1 + 1) t0 t1 t3
+            (loads_count (branch ∷ (for_first into ++ others)))
+            (runs_then target (moves + 3) (moves + 0) 1 1 t1 t2 t3 jumps enters);
+      }
+
+  to_alone : (into : Option ℕ) → nat_eq (count_at s.heap named.at) 1 ≡ true → Finds second s.frame (for_second into ++ ending)
+      → Steps (4 * most_moves + 7) (turn_of (head_of into ++ (for_second into ++ ending)) s.frame fs s.world)
+      (turn_of (alone ++ behind_alone into) tests fs s.world)
+  to_alone None test finds = to_second None test finds
+  to_alone (Some made) test finds =
+      let first = to_first (Some made) (ap not test) in
+      let cheap = first.cheap in
+      record { cost = first.cost; steps = first.steps; cheap = omega arith; runs = first.runs }
+
+  -- the cost to come to the way of a cell of several references, and that to leave it
+  abbrev come_cost : Option ℕ → ℕ
+  come_cost None = 3 * most_moves + 7
+  come_cost (Some made) = 4 * most_moves + 7
+
+  abbrev leave_cost : Option ℕ → ℕ
+  leave_cost None = 2 * most_moves + 2
+  leave_cost (Some made) = most_moves
+
+  both_cheap : (into : Option ℕ) → come_cost into + leave_cost into ≤ 5 * most_moves + 9
+  both_cheap None = omega arith
+  both_cheap (Some made) = omega arith
+
+  to_shared : (into : Option ℕ) → nat_eq (count_at s.heap named.at) 1 ≡ false → Finds second s.frame (for_second into ++ ending)
+      → Steps (come_cost into) (turn_of (head_of into ++ (for_second into ++ ending)) s.frame fs s.world)
+      (turn_of (shared ++ behind_shared into) tests fs s.world)
+  to_shared None test finds = to_first None test
+  to_shared (Some made) test finds = to_second (Some made) (ap not test) finds
+
+  -- the way of a cell of several references leads behind the opening
+  leaves_shared : (into : Option ℕ) (frame : Frame Line) (world : World) → Finds behind frame ending
+      → Steps (leave_cost into) (turn_of (behind_shared into) frame fs world) (turn_of rest frame fs world)
+  leaves_shared None frame world finds =
+      let moves = most_moves in
+      let others = for_second None ++ ending in
+      record {
+        cost = (moves + 2) + (moves + 0);
+        steps = 1 + 1;
+        cheap = omega arith;
+        runs = runs_then known.target (moves + 2) (moves + 0) 1 1 (turn_of (acts (Jump behind) [] ∷ others) frame fs world)
+            (turn_of ending frame fs world) (turn_of rest frame fs world)
+            (jump_runs known.target others frame fs world behind ending finds) (label_runs known.target rest frame fs world behind);
+      }
+  leaves_shared (Some made) frame world finds = record {
+    cost = most_moves + 0;
+    steps = 1;
+    cheap = omega arith;
+    runs = label_runs known.target rest frame fs world behind;
+  }
 
   pub x_behind : (frame : Frame Line) (owners : ℕ → Owner) (cells : Cells) → Here known (spot_of frame owners cells)
       → frame.cells x ≡ Some (s.address named.at)
@@ -277,7 +398,7 @@ module _ (known : Known) (o : CountOpening known) where
 
   -- The fields are loaded, and those that are not in use dropped. The cell is in hand.
 
-  module _ (once : count_at s.heap named.at ≡ 1)
+  module _ (once : count_at s.heap named.at ≡ 1) (finds : Finds second s.frame (for_second o.into ++ ending))
       (given : drop_all (other_values used fields named.fields) (set_count named.at 0 s.heap) ≡ Some next) where
     abbrev pub at : ℕ
     at = s.address named.at
@@ -288,9 +409,12 @@ module _ (known : Known) (o : CountOpening known) where
     pub is_owned : s.owners at ≡ cell_of named.at
     is_owned = here.follows.named named.at counted
 
-    read : Did known (row_cost fields (most_moves + 2)) loads ((drops ++ ends) ++ (for_shared ++ ending)) fs
+    abbrev copies : List Line
+    copies = copies_to x token ∷ []
+
+    read : Did known (row_cost fields (most_moves + 2)) loads ((drops ++ copies) ++ behind_alone o.into) fs
         (at_frame s tests) (one_from tests)
-    read = read_did known ((drops ++ ends) ++ (for_shared ++ ending)) fs (at_frame s tests) x c fields loads named here_tests
+    read = read_did known ((drops ++ copies) ++ behind_alone o.into) fs (at_frame s tests) x c fields loads named here_tests
         (still_reads known s tests x c fields named reads) uniques.6
 
     here_two : Here known two
@@ -314,9 +438,9 @@ module _ (known : Known) (o : CountOpening known) where
         (ap (λ (h : Held). h.cell.fields) same_held ∙ made.fields) stands.shows.fields
 
     pub record Emptied (frame : Frame Line) (owners : ℕ → Owner) (cells : Cells) : Type 0 where
-      pub comes : Comes (3 * most_moves + 7 + row_cost fields (most_moves + 2)
-          + row_cost (others_of used fields) (most_moves + 14)) (ends ++ (for_shared ++ ending)) s.frame.cells frame owners
-          cells
+      pub comes : Comes (4 * most_moves + 7 + row_cost fields (most_moves + 2)
+          + row_cost (others_of used fields) (most_moves + 14)) (copies_to x token ∷ behind_alone o.into) s.frame.cells frame
+          owners cells
       pub words : ℕ → Option ℕ
       pub hand : owners at ≡ in_hand words
       pub count_is : words 0 ≡ Some 1
@@ -332,7 +456,7 @@ module _ (known : Known) (o : CountOpening known) where
         let others = others_of used fields in
         let values : values_of two.environment others ≡ other_values used fields named.fields = where_values
         (λ y. not (is_among used y)) fields named.fields s.environment apart many in
-        let behind_drops = ends ++ (for_shared ++ ending) in
+        let behind_drops = copies ++ behind_alone o.into in
         let dropped = drops_did known behind_drops fs others two next here_two
         (bound_fields (λ y. not (is_among used y)) fields s.bound)
         (ap (λ vs. drop_all vs (set_count named.at 0 s.heap)) values ∙ given) in
@@ -342,30 +466,23 @@ module _ (known : Known) (o : CountOpening known) where
         let here_at : with_owner at (in_hand stands.words) s.owners at ≡ in_hand stands.words =
         chosen_same at at (in_hand stands.words) s.owners refl in
         let test : nat_eq (count_at s.heap named.at) 1 ≡ true = grind (arith, nat_tests) in
-        let falls = falls_runs target (for_unique ++ (for_shared ++ ending)) tests fs s.world NotEqual shared known.base
-        (known.base + 1)
-        (count_at s.heap named.at) 1 first_temporary second_temporary (ap not test) in
-        let t0 = turn_of (tested ∷ sets 1 (known.base + 1) ∷ acts (Branch NotEqual shared) (known.base ∷ (known.base + 1) ∷ []) ∷
-        (for_unique ++ (for_shared ++ ending))) s.frame fs s.world in
-        let t1 = turn_of (acts (Branch NotEqual shared) (known.base ∷ (known.base + 1) ∷ []) ∷
-        (for_unique ++ (for_shared ++ ending))) tests fs s.world in
-        let t2 = turn_of (for_unique ++ (for_shared ++ ending)) tests fs s.world in
-        let t3 = turn_of (drops ++ behind_drops) two.frame fs s.world in
-        let t4 = turn_of behind_drops frame fs world in
-        let reading : Runs target read.cost read.steps t2 t3 =
-        subst (λ ls. Runs target read.cost read.steps (turn_of ls tests fs s.world) t3)
-        (sym (append_assoc loads (drops ++ ends) (for_shared ++ ending)))
+        let comes = to_alone o.into test finds in
+        let t0 = turn_of (head_of o.into ++ (for_second o.into ++ ending)) s.frame fs s.world in
+        let t1 = turn_of (alone ++ behind_alone o.into) tests fs s.world in
+        let t2 = turn_of (drops ++ behind_drops) two.frame fs s.world in
+        let t3 = turn_of behind_drops frame fs world in
+        let reading : Runs target read.cost read.steps t1 t2 =
+        subst (λ ls. Runs target read.cost read.steps (turn_of ls tests fs s.world) t2)
+        (sym (append_assoc loads (drops ++ copies) (behind_alone o.into)))
         (subst (λ ls. Runs target read.cost read.steps
-        (turn_of (loads ++ ((drops ++ ends) ++ (for_shared ++ ending))) tests fs s.world)
-        (turn_of ls two.frame fs s.world)) (append_assoc drops ends (for_shared ++ ending)) read.runs) in
-        let end_five = runs_then target read.cost did.cost read.steps did.steps t2 t3 t4 reading did.runs in
-        let end_six = runs_then target (moves + 3) (read.cost + did.cost) 1 (read.steps + did.steps) t1 t2 t4 falls end_five in
-        let whole = runs_then target ((moves + 2) + (moves + 2)) ((moves + 3) + (read.cost + did.cost)) (1 + 1)
-        (1 + (read.steps + did.steps)) t0 t1 t4
-        (loads_count (acts (Branch NotEqual shared) (known.base ∷ (known.base + 1) ∷ []) ∷ (for_unique ++ (for_shared ++ ending))))
-        end_six in
+        (turn_of (loads ++ ((drops ++ copies) ++ behind_alone o.into)) tests fs s.world)
+        (turn_of ls two.frame fs s.world)) (append_assoc drops copies (behind_alone o.into)) read.runs) in
+        let end_one = runs_then target read.cost did.cost read.steps did.steps t1 t2 t3 reading did.runs in
+        let whole = runs_then target comes.cost (read.cost + did.cost) comes.steps (read.steps + did.steps) t0 t1 t3 comes.runs
+        end_one in
         let cells = busy_set named.at 0 0 s.heap once in
         let weights = freed_weight named.at 0 s.heap once in
+        let cheap_first = comes.cheap in
         let cheap_read = read.within in
         let cheap = did.within in (
           frame,
@@ -373,11 +490,11 @@ module _ (known : Known) (o : CountOpening known) where
           dropped.1,
           record {
             comes = record {
-              cost = ((moves + 2) + (moves + 2)) + ((moves + 3) + (read.cost + did.cost));
-              steps = (1 + 1) + (1 + (read.steps + did.steps));
+              cost = comes.cost + (read.cost + did.cost);
+              steps = comes.steps + (read.steps + did.steps);
               within = omega arith;
-              runs = subst (λ ls. Runs target (((moves + 2) + (moves + 2)) + ((moves + 3) + (read.cost + did.cost)))
-                  ((1 + 1) + (1 + (read.steps + did.steps))) (turn_of ls s.frame fs s.world) t4) (sym whole_lines) whole;
+              runs = subst (λ ls. Runs target (comes.cost + (read.cost + did.cost)) (comes.steps + (read.steps + did.steps))
+                  (turn_of ls s.frame fs s.world) t3) (sym whole_lines) whole;
               here = did.here;
               spared = λ z low none. did.spared z low none ∙ read.spared z low none ∙ tests_spare z low;
               whole = did.whole;
@@ -403,10 +520,10 @@ module _ (known : Known) (o : CountOpening known) where
   module _ (n : ℕ) (several : count_at s.heap named.at ≡ suc (suc n))
       (given : dup_all (used_values used fields named.fields) (set_count named.at (suc n) s.heap) ≡ Some next)
       (small : AreSmall (length (filter (is_among used) fields)) s.heap)
-      (finds : found (λ line. is_label shared line.action) s.frame.whole ≡ Some (for_shared ++ ending))
+      (finds : Finds second s.frame (for_second o.into ++ ending)) (finds_behind : Finds behind s.frame ending)
       (begin_cost begin_steps : ℕ) (cleared : ℕ → Option ℕ)
-      (clears : Runs known.target begin_cost begin_steps (turn_of (begins ++ ((loads ++ lowers) ++ ending)) tests fs s.world)
-      (turn_of ((loads ++ lowers) ++ ending) (record tests { cells = cleared }) fs s.world))
+      (clears : Runs known.target begin_cost begin_steps (turn_of (shared ++ behind_shared o.into) tests fs s.world)
+      (turn_of ((loads ++ lowers) ++ behind_shared o.into) (record tests { cells = cleared }) fs s.world))
       (values_cleared : HasValues known.layout s.address known.holds known.base (length s.heap) s.bound s.environment cleared) where
     abbrev clear_frame : Frame Line
     clear_frame = record tests { cells = cleared }
@@ -417,8 +534,9 @@ module _ (known : Known) (o : CountOpening known) where
     here_cleared : Here known (at_frame s clear_frame)
     here_cleared = record { follows = here.follows; values = values_cleared }
 
-    read_shared : Did known (row_cost fields (most_moves + 2)) loads (lowers ++ ending) fs (at_frame s clear_frame) one
-    read_shared = read_did known (lowers ++ ending) fs (at_frame s clear_frame) x c fields loads named here_cleared
+    read_shared : Did known (row_cost fields (most_moves + 2)) loads (lowers ++ behind_shared o.into) fs (at_frame s clear_frame)
+        one
+    read_shared = read_did known (lowers ++ behind_shared o.into) fs (at_frame s clear_frame) x c fields loads named here_cleared
         (still_reads known s clear_frame x c fields named reads) uniques.6
 
     -- the frame behind the count that is lowered, and the cells
@@ -452,30 +570,30 @@ module _ (known : Known) (o : CountOpening known) where
     }
 
     lowers_run : Runs known.target ((most_moves + 2) + ((most_moves + 2) + (most_moves + 3))) (1 + (1 + 1))
-        (turn_of (lowers ++ ending) one.frame fs s.world)
-        (turn_of (dups ++ ending) counts fs (with_cells s.world stored))
+        (turn_of (lowers ++ behind_shared o.into) one.frame fs s.world)
+        (turn_of (dups ++ behind_shared o.into) counts fs (with_cells s.world stored))
     lowers_run =
         let moves = most_moves in
         let target = known.target in
         let f1 = put_in known.base (suc (suc n)) one.frame in
         let low = below_base in
         let count_is : stands.words 0 ≡ Some (suc (suc n)) = count_there ∙ ap Some several in
-        let adds = uniques.4 ∷ (dups ++ ending) in
+        let adds = uniques.4 ∷ (dups ++ behind_shared o.into) in
         let loaded = load_runs target (computes (Op.Immediate Addi uniques.3) (known.base ∷ []) known.base ∷ adds) one.frame fs
         s.world x 0 known.base (s.address named.at) (suc (suc n)) uniques.2 uniques.7 x_in_one
         (load_own s.world.cells (s.address named.at) 0 (suc (suc n)) stands.words stands.is (omega arith) count_is) in
         let added = addi_runs target adds f1 fs s.world known.base known.base (suc (suc n)) uniques.3
         (put_same known.base (suc (suc n)) one.frame.cells) in
-        let t1 = turn_of (lowers ++ ending) one.frame fs s.world in
+        let t1 = turn_of (lowers ++ behind_shared o.into) one.frame fs s.world in
         let t2 = turn_of (computes (Op.Immediate Addi uniques.3) (known.base ∷ []) known.base ∷ adds) f1 fs s.world in
         let t3 = turn_of adds counts fs s.world in
-        let t4 = turn_of (dups ++ ending) counts fs (with_cells s.world stored) in
+        let t4 = turn_of (dups ++ behind_shared o.into) counts fs (with_cells s.world stored) in
         let adding : Runs target (moves + 2) 1 t2 t3 = subst
         (λ w. Runs target (moves + 2) 1 t2 (turn_of adds (put_in known.base w f1) fs s.world)) less_one added in
         let x_here : counts.cells x ≡ Some (s.address named.at) =
         put_other known.base x (suc n) f1.cells (λ e. omega arith) ∙ put_other known.base x (suc (suc n)) one.frame.cells
         (λ e. omega arith) ∙ x_in_one in
-        let storing = store_runs target (dups ++ ending) counts fs s.world x 0 known.base (s.address named.at)
+        let storing = store_runs target (dups ++ behind_shared o.into) counts fs s.world x 0 known.base (s.address named.at)
         (suc n) uniques.4 stored uniques.9 x_here (put_same known.base (suc n) f1.cells)
         (store_own s.world.cells (s.address named.at) 0 (suc n) stands.words stands.is (omega arith)) in
         runs_then target (moves + 2) ((moves + 2) + (moves + 3)) 1 (1 + 1) t1 t2 t4 loaded
@@ -492,7 +610,7 @@ module _ (known : Known) (o : CountOpening known) where
         ]
 
     pub lessens : (frame : Frame Line) × (owners : ℕ → Owner) × (cells : Cells)
-        × Comes (begin_cost + (8 * most_moves + 14 + row_cost fields (most_moves + 2)
+        × Comes (begin_cost + (8 * most_moves + 16 + row_cost fields (most_moves + 2)
         + row_cost (filter (is_among used) fields) (most_moves + 5))) rest cleared frame owners cells
         × ((y : ℕ) → is_aside (s.owners y) ≡ true → owners y ≡ s.owners y)
         × ((y : ℕ) → is_aside (owners y) ≡ true → owners y ≡ s.owners y)
@@ -502,58 +620,44 @@ module _ (known : Known) (o : CountOpening known) where
         let part = filter (is_among used) fields in
         let values : values_of one.environment part ≡ used_values used fields named.fields = where_values
         (is_among used) fields named.fields s.environment apart many in
-        let dupped = dups_did known ending fs part three next here_three (bound_fields (is_among used) fields s.bound)
+        let dupped = dups_did known (behind_shared o.into) fs part three next here_three (bound_fields (is_among used) fields s.bound)
         (ap (λ vs. dup_all vs (set_count named.at (suc n) s.heap)) values ∙ given)
         (λ name. let all = small name in let fewer = fewer_counts name in omega arith) in
         let did = dupped.2 in
         let world = with_cells s.world dupped.1 in
         let test : nat_eq (count_at s.heap named.at) 1 ≡ false = grind (arith, nat_tests) in
-        let jumps = branch_runs target (for_unique ++ (for_shared ++ ending)) tests fs s.world NotEqual shared known.base
-        (known.base + 1)
-        (count_at s.heap named.at) 1 (for_shared ++ ending) first_temporary second_temporary (ap not test) finds in
-        let enters = label_runs target (shared_lines ++ ending) tests fs s.world shared in
-        let leaving = label_runs target rest counts fs world behind in
-        let t0 = turn_of (tested ∷ sets 1 (known.base + 1) ∷ acts (Branch NotEqual shared) (known.base ∷ (known.base + 1) ∷ []) ∷
-        (for_unique ++ (for_shared ++ ending))) s.frame fs s.world in
-        let t1 = turn_of (acts (Branch NotEqual shared) (known.base ∷ (known.base + 1) ∷ []) ∷
-        (for_unique ++ (for_shared ++ ending))) tests fs s.world in
-        let t2 = turn_of (for_shared ++ ending) tests fs s.world in
-        let t3 = turn_of (shared_lines ++ ending) tests fs s.world in
-        let t4 = turn_of ((loads ++ lowers) ++ ending) clear_frame fs s.world in
-        let t5 = turn_of (lowers ++ ending) one.frame fs s.world in
-        let t6 = turn_of (dups ++ ending) counts fs (with_cells s.world stored) in
-        let t7 = turn_of ending counts fs world in
-        let t8 = turn_of rest counts fs world in
+        let comes = to_shared o.into test finds in
+        let leaves = leaves_shared o.into counts world (ap (λ w. found (λ line. is_label behind line.action) w) did.whole
+        ∙ finds_behind) in
+        let left = behind_shared o.into in
+        let t0 = turn_of (head_of o.into ++ (for_second o.into ++ ending)) s.frame fs s.world in
+        let t1 = turn_of (shared ++ left) tests fs s.world in
+        let t2 = turn_of ((loads ++ lowers) ++ left) clear_frame fs s.world in
+        let t3 = turn_of (lowers ++ left) one.frame fs s.world in
+        let t4 = turn_of (dups ++ left) counts fs (with_cells s.world stored) in
+        let t5 = turn_of left counts fs world in
+        let t6 = turn_of rest counts fs world in
         let read = read_shared in
-        let clearing : Runs target begin_cost begin_steps t3 t4 =
-        subst (λ ls. Runs target begin_cost begin_steps (turn_of ls tests fs s.world) t4)
-        (sym (append_assoc begins (loads ++ lowers) ending)) clears in
-        let reading : Runs target read.cost read.steps t4 t5 =
-        subst (λ ls. Runs target read.cost read.steps (turn_of ls clear_frame fs s.world) t5)
-        (sym (append_assoc loads lowers ending)) read.runs in
+        let reading : Runs target read.cost read.steps t2 t3 =
+        subst (λ ls. Runs target read.cost read.steps (turn_of ls clear_frame fs s.world) t3)
+        (sym (append_assoc loads lowers left)) read.runs in
         let lowering = (moves + 2) + ((moves + 2) + (moves + 3)) in
-        let end_two = runs_then target did.cost (moves + 0) did.steps 1 t6 t7 t8 did.runs leaving in
-        let end_three = runs_then target lowering (did.cost + (moves + 0)) (1 + (1 + 1))
-        (did.steps + 1) t5 t6 t8 lowers_run end_two in
-        let end_four = runs_then target read.cost (lowering + (did.cost + (moves + 0))) read.steps
-        ((1 + (1 + 1)) + (did.steps + 1)) t4 t5 t8 reading end_three in
-        let end_five = runs_then target begin_cost (read.cost + (lowering + (did.cost + (moves + 0)))) begin_steps
-        (read.steps + ((1 + (1 + 1)) + (did.steps + 1))) t3 t4 t8 clearing end_four in
-        let end_six = runs_then target (moves + 0) (begin_cost + (read.cost + (lowering + (did.cost + (moves + 0))))) 1
-        (begin_steps + (read.steps + ((1 + (1 + 1)) + (did.steps + 1)))) t2 t3 t8 enters end_five in
-        let end_seven = runs_then target (moves + 3)
-        ((moves + 0) + (begin_cost + (read.cost + (lowering + (did.cost + (moves + 0)))))) 1
-        (1 + (begin_steps + (read.steps + ((1 + (1 + 1)) + (did.steps + 1))))) t1 t2 t8 jumps end_six in
-        let cost = ((moves + 2) + (moves + 2))
-        + ((moves + 3) + ((moves + 0) + (begin_cost + (read.cost + (lowering + (did.cost + (moves + 0))))))) in
-        let steps = (1 + 1) + (1 + (1 + (begin_steps + (read.steps + ((1 + (1 + 1)) + (did.steps + 1)))))) in
-        let whole = runs_then target ((moves + 2) + (moves + 2))
-        ((moves + 3) + ((moves + 0) + (begin_cost + (read.cost + (lowering + (did.cost + (moves + 0))))))) (1 + 1)
-        (1 + (1 + (begin_steps + (read.steps + ((1 + (1 + 1)) + (did.steps + 1)))))) t0 t1 t8
-        (loads_count (acts (Branch NotEqual shared) (known.base ∷ (known.base + 1) ∷ []) ∷ (for_unique ++ (for_shared ++ ending))))
-        end_seven in
+        let end_two = runs_then target did.cost leaves.cost did.steps leaves.steps t4 t5 t6 did.runs leaves.runs in
+        let end_three = runs_then target lowering (did.cost + leaves.cost) (1 + (1 + 1)) (did.steps + leaves.steps) t3 t4 t6 lowers_run
+        end_two in
+        let end_four = runs_then target read.cost (lowering + (did.cost + leaves.cost)) read.steps
+        ((1 + (1 + 1)) + (did.steps + leaves.steps)) t2 t3 t6 reading end_three in
+        let end_five = runs_then target begin_cost (read.cost + (lowering + (did.cost + leaves.cost))) begin_steps
+        (read.steps + ((1 + (1 + 1)) + (did.steps + leaves.steps))) t1 t2 t6 clears end_four in
+        let cost = comes.cost + (begin_cost + (read.cost + (lowering + (did.cost + leaves.cost)))) in
+        let steps = comes.steps + (begin_steps + (read.steps + ((1 + (1 + 1)) + (did.steps + leaves.steps)))) in
+        let whole = runs_then target comes.cost (begin_cost + (read.cost + (lowering + (did.cost + leaves.cost)))) comes.steps
+        (begin_steps + (read.steps + ((1 + (1 + 1)) + (did.steps + leaves.steps)))) t0 t1 t6 comes.runs end_five in
         let cells = busy_set named.at (suc n) (suc n) s.heap several in
         let weights = kept_weight named.at n (suc n) s.heap several in
+        let cheap_first = comes.cheap in
+        let cheap_last = leaves.cheap in
+        let cheap_both = both_cheap o.into in
         let cheap_read = read.within in
         let cheap = did.within in (
           counts,
@@ -563,7 +667,7 @@ module _ (known : Known) (o : CountOpening known) where
             cost = cost;
             steps = steps;
             within = omega arith;
-            runs = subst (λ ls. Runs target cost steps (turn_of ls s.frame fs s.world) t8) (sym whole_lines) whole;
+            runs = subst (λ ls. Runs target cost steps (turn_of ls s.frame fs s.world) t6) (sym whole_lines) whole;
             here = did.here;
             spared = λ z low none. did.spared z low none
                 ∙ put_other known.base z (suc n) (put_in known.base (suc (suc n)) one.frame).cells (λ e. omega (arith, e, low))

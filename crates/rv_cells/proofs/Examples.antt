@@ -18,7 +18,7 @@ use Rattle.kk_counted.specs.Marks.{CellMarks}
 use Rattle.kk_counted.specs.TokenedCodes.{Tokened, TokenedArms, TokenedFunction}
 use Rattle.kk_counted.proofs.Examples.{nil_or_cons}
 use Rattle.rv_isa.specs.declared.asm.Action.TheVariants.{Compute, Label, Jump, Branch, Call, Return, Routine as Calls, Unhold}
-use Rattle.rv_isa.specs.declared.asm.Condition.TheVariants.{NotEqual}
+use Rattle.rv_isa.specs.declared.asm.Condition.TheVariants.{Equal, NotEqual}
 use Rattle.rv_isa.specs.declared.asm.Operation.TheVariants as Op
 use Rattle.rv_isa.specs.declared.asm.RegisterOperation.TheVariants as Register
 use Rattle.rv_isa.specs.declared.asm.ImmediateOperation.TheVariants.{Addi}
@@ -32,7 +32,7 @@ use Rattle.rv_lower.specs.Lines.{computes, sets, copies_to, acts}
 use Rattle.rv_lower.specs.Lowered.{returns}
 use Rattle.rv_cells.specs.Layout.{Layout}
 use Rattle.rv_cells.specs.declared.standing.Standing.TheVariants.{Nothing}
-use Rattle.rv_cells.specs.CellLines.{hold_line, back_line, SomeWords, is_kept, ConstructLines, FillLines, AllLoads, CountLines, token_ends, TokenUniqueLines}
+use Rattle.rv_cells.specs.CellLines.{hold_line, back_line, SomeWords, is_kept, ConstructLines, FillLines, AllLoads, goes_second, both_ways, TokenUniqueLines}
 use Rattle.rv_cells.proofs.Standings.{nothing_kept}
 use Rattle.rv_cells.specs.CountedLines.{Setting}
 use Rattle.rv_cells.specs.Meaning.{setting_on}
@@ -129,11 +129,11 @@ tests_lines = acts (Label 2) [] ∷ test_lines
 -- the token is the cell where it has no other reference, and else it is null
 abbrev opening_lines : List Line
 opening_lines =
-    loads immediate_0 0 8 ∷ sets 1 9 ∷ acts (Branch NotEqual 5) (8 ∷ 9 ∷ [])
-    ∷ loads immediate_8 0 1 ∷ loads immediate_12 0 2 ∷ copies_to 0 7 ∷ acts (Jump 6) []
-    ∷ acts (Label 5) [] ∷ sets 0 7 ∷ loads immediate_8 0 1 ∷ loads immediate_12 0 2
+    loads immediate_0 0 8 ∷ sets 1 9 ∷ acts (Branch Equal 5) (8 ∷ 9 ∷ [])
+    ∷ sets 0 7 ∷ loads immediate_8 0 1 ∷ loads immediate_12 0 2
     ∷ loads immediate_0 0 8 ∷ computes (Op.Immediate Addi minus_one) (8 ∷ []) 8 ∷ stores immediate_0 0 8
-    ∷ acts (Compute Op.Dup) (2 ∷ []) ∷ acts (Label 6) [] ∷ []
+    ∷ acts (Compute Op.Dup) (2 ∷ []) ∷ acts (Jump 6) []
+    ∷ acts (Label 5) [] ∷ loads immediate_8 0 1 ∷ loads immediate_12 0 2 ∷ copies_to 0 7 ∷ acts (Label 6) [] ∷ []
 
 -- the new cell is that of the token, or one that is taken where the token is null
 abbrev filling_lines : List Line
@@ -202,13 +202,13 @@ two_loads_are = (
   refl,
 )
 
--- an opening of a Cons, with these lines where the cell has no other reference
-opened_by : (ends : List Line) → CountLines 8 inc_holds 5 6 0 (1 ∷ 2 ∷ []) (1 ∷ 2 ∷ []) ends (sets 0 7 ∷ [])
-    (loads immediate_0 0 8 ∷ sets 1 9 ∷ acts (Branch NotEqual 5) (8 ∷ 9 ∷ []) ∷ loads immediate_8 0 1 ∷ loads immediate_12 0 2
-    ∷ (ends ++ (acts (Label 5) [] ∷ sets 0 7 ∷ loads immediate_8 0 1 ∷ loads immediate_12 0 2 ∷ loads immediate_0 0 8
-    ∷ computes (Op.Immediate Addi minus_one) (8 ∷ []) 8 ∷ stores immediate_0 0 8 ∷ acts (Compute Op.Dup) (2 ∷ [])
-    ∷ acts (Label 6) [] ∷ [])))
-opened_by ends = (
+-- an opening of a Cons
+opened_by : (into : Option ℕ) → TokenUniqueLines 8 inc_holds 5 6 7 0 (1 ∷ 2 ∷ []) (1 ∷ 2 ∷ []) 7 into
+    (loads immediate_0 0 8 ∷ sets 1 9 ∷ acts (Branch (goes_second into) 5) (8 ∷ 9 ∷ [])
+    ∷ both_ways into 5 6 7 7 (loads immediate_8 0 1 ∷ loads immediate_12 0 2 ∷ copies_to 0 7 ∷ [])
+    (sets 0 7 ∷ loads immediate_8 0 1 ∷ loads immediate_12 0 2 ∷ loads immediate_0 0 8
+    ∷ computes (Op.Immediate Addi minus_one) (8 ∷ []) 8 ∷ stores immediate_0 0 8 ∷ acts (Compute Op.Dup) (2 ∷ []) ∷ []))
+opened_by into = (
   loads immediate_0 0 8,
   two_loads,
   loads immediate_0 0 8,
@@ -223,7 +223,7 @@ opened_by ends = (
 )
 
 opens : TokenUniqueLines 8 inc_holds 5 6 7 0 (1 ∷ 2 ∷ []) (1 ∷ 2 ∷ []) 7 None opening_lines
-opens = opened_by (token_ends None 0 7 6 7)
+opens = opened_by None
 
 -- in front of a construction in the cell of its token an opening goes on behind that one's test
 enters : OpeningLines (setting inc_holds 8) 7 5 0 (1 ∷ 2 ∷ []) (1 ∷ 2 ∷ []) 0 (Tokened.fill 6 0 3 1 (2 ∷ []) [] [] (Tokened.give 6))
@@ -232,7 +232,7 @@ enters : OpeningLines (setting inc_holds 8) 7 5 0 (1 ∷ 2 ∷ []) (1 ∷ 2 ∷ 
     ∷ acts (Label 5) [] ∷ sets 0 7 ∷ loads immediate_8 0 1 ∷ loads immediate_12 0 2
     ∷ loads immediate_0 0 8 ∷ computes (Op.Immediate Addi minus_one) (8 ∷ []) 8 ∷ stores immediate_0 0 8
     ∷ acts (Compute Op.Dup) (2 ∷ []) ∷ acts (Label 6) [] ∷ [])
-enters = (Some 6, (refl, refl), opened_by (token_ends (Some 6) 0 7 6 7))
+enters = (Some 6, (refl, refl), opened_by (Some 6))
 
 -- all words of a Cons, and those but its second field
 stores_all : (base x head rest : ℕ)

@@ -24,13 +24,13 @@ use Rattle.rv_isa.specs.declared.asm.RegisterOperation.TheVariants as Register
 use Rattle.rv_isa.specs.declared.routine.Routine.TheVariants.{Take}
 use Rattle.rv_isa.specs.AsmCode.{Line}
 use Rattle.rv_isa.specs.Costs.{line_length, code_length}
-use Rattle.rv_lower.specs.Lines.{computes, sets, acts, registers, copies, temporaries}
+use Rattle.rv_lower.specs.Lines.{computes, sets, copies_to, acts, registers, copies, temporaries}
 use Rattle.rv_lower.specs.Lowered.{Goal, returns, joins, goal_lines, tail_lines}
 use Rattle.rv_lower.specs.Lines.{MakesTruth, Compares, ComparesWithOne, BinaryLines, PrintLines, AppliedLines}
 use Rattle.rv_cells.specs.Layout.{header_of, first_field}
 use Rattle.rv_cells.specs.CellLines.{Loads, Stores, AllLoads, AllStores, dup_lines, drop_lines, dups_lines, drops_lines}
-use Rattle.rv_cells.specs.CellLines.{StoresIf, SomeStores, SetIf, is_kept, ConstructLines, FillLines, TokenUniqueLines, CountLines}
-use Rattle.rv_cells.specs.CellLines.{hold_line, hold_lines, unhold_lines, token_ends}
+use Rattle.rv_cells.specs.CellLines.{StoresIf, SomeStores, SetIf, is_kept, ConstructLines, FillLines, TokenUniqueLines}
+use Rattle.rv_cells.specs.CellLines.{hold_line, hold_lines, unhold_lines, leaving_lines, both_ways}
 use Rattle.rv_cells.specs.CountedLines.{Setting, ComputeLines}
 
 pub lines_append : (first second : List Line) → code_length (first ++ second) ≡ code_length first + code_length second
@@ -110,26 +110,47 @@ module _ (holds : ℕ → Bool) where
 
   -- ---- forms that touch cells
 
-  -- both ways of an opening by the count of a cell, but the lines at their ends
-  pub count_length : (base shared behind x : ℕ) (fields used : List ℕ) (ends begins lines : List Line)
-      → CountLines base holds shared behind x fields used ends begins lines
-      → code_length lines ≤ 25 + opened_field_words * length fields + code_length ends + code_length begins
-  count_length base shared behind x fields used ends begins lines is =
+  -- both ways of an opening by the count of a cell
+  ways_length : (into : Option ℕ) (second behind filled token : ℕ) (alone shared : List Line)
+      → code_length (both_ways into second behind filled token alone shared)
+      ≡ code_length alone + code_length shared + code_length (leaving_lines into token behind filled)
+  ways_length None second behind filled token alone shared =
+      let last : List Line = acts (Label behind) [] ∷ [] in
+      let leaving : List Line = leaving_lines None token behind filled in
+      let apart = lines_append (shared ++ leaving) ((acts (Label second) [] ∷ alone) ++ last) in
+      let first = lines_append shared leaving in
+      let ending = lines_append alone last in
+      omega (arith, apart, first, ending)
+  ways_length (Some into) second behind filled token alone shared =
+      let last : List Line = acts (Label behind) [] ∷ [] in
+      let leaving : List Line = leaving_lines (Some into) token behind filled in
+      let apart = lines_append (alone ++ leaving) ((acts (Label second) [] ∷ shared) ++ last) in
+      let first = lines_append alone leaving in
+      let ending = lines_append shared last in
+      omega (arith, apart, first, ending)
+
+  leaving_length : (into : Option ℕ) (token behind filled : ℕ) → code_length (leaving_lines into token behind filled) ≤ 6
+  leaving_length None token behind filled = omega arith
+  leaving_length (Some into) token behind filled = omega arith
+
+  pub token_unique_length : (base second behind filled x : ℕ) (fields used : List ℕ) (token : ℕ) (into : Option ℕ)
+      (lines : List Line) → TokenUniqueLines base holds second behind filled x fields used token into lines
+      → code_length lines ≤ 38 + opened_field_words * length fields
+  token_unique_length base second behind filled x fields used token into lines is =
       let kept : List ℕ = filter (is_among used) fields in
       let others : List ℕ = filter (λ y. not (is_among used y)) fields in
+      let copied : List Line = copies_to x token ∷ [] in
       let dropped : List Line = drops_lines holds others in
       let dupped : List Line = dups_lines holds kept in
       let lowered : List Line = is.2 ∷ computes (Op.Immediate Addi is.3) (base ∷ []) base ∷ is.4 ∷ dupped in
-      let alone : List Line = is.1 ++ (dropped ++ ends) in
-      let shares : List Line = acts (Label shared) [] ∷ (begins ++ (is.1 ++ lowered)) in
-      let last : List Line = acts (Label behind) [] ∷ [] in
+      let alone : List Line = is.1 ++ (dropped ++ copied) in
+      let shared : List Line = sets 0 token ∷ (is.1 ++ lowered) in
       let whole = ap code_length is.10 in
-      let apart = lines_append alone (shares ++ last) in
-      let ending = lines_append shares last in
-      let first = lines_append is.1 (dropped ++ ends) in
-      let leaves = lines_append dropped ends in
-      let starts = lines_append begins (is.1 ++ lowered) in
-      let second = lines_append is.1 lowered in
+      let both = ways_length into second behind filled token alone shared in
+      let leaves = leaving_length into token behind filled in
+      let first = lines_append is.1 (dropped ++ copied) in
+      let copies = lines_append dropped copied in
+      let other = lines_append is.1 lowered in
       let test = load_length x 0 base is.0 is.5 in
       let loads = loads_length x 2 fields is.1 is.6 in
       let count = load_length x 0 base is.2 is.7 in
@@ -137,35 +158,7 @@ module _ (holds : ℕ → Bool) where
       let drops = drops_length others in
       let dups = dups_length kept in
       let all = filter_apart (is_among used) fields in
-      omega (
-        arith,
-        whole,
-        apart,
-        ending,
-        first,
-        leaves,
-        starts,
-        second,
-        test,
-        loads,
-        count,
-        store,
-        drops,
-        dups,
-        all,
-      )
-
-  pub token_unique_length : (base shared behind filled x : ℕ) (fields used : List ℕ) (token : ℕ) (into : Option ℕ)
-      (lines : List Line) → TokenUniqueLines base holds shared behind filled x fields used token into lines
-      → code_length lines ≤ 38 + opened_field_words * length fields
-  token_unique_length base shared behind filled x fields used token None lines is =
-      let own = count_length base shared behind x fields used (token_ends None x token behind filled) (sets 0 token ∷ []) lines
-      is in
-      omega (arith, own)
-  token_unique_length base shared behind filled x fields used token (Some into) lines is =
-      let own = count_length base shared behind x fields used (token_ends (Some into) x token behind filled) (sets 0 token ∷ [])
-      lines is in
-      omega (arith, own)
+      omega (arith, whole, both, leaves, first, copies, other, test, loads, count, store, drops, dups, all)
 
 pub construct_length : (base x header : ℕ) (arguments : List ℕ) (lines : List Line) → ConstructLines base x header arguments lines
     → code_length lines ≤ 19 + field_words * length arguments

@@ -1,8 +1,6 @@
 -- Where the lines of the parts of a code stand among its own lines: each code has a tree of its parts.
-use Rattle.std.proofs.Common.{◌≡◌, ℕ, suc, ◌+◌, ◌⊎◌, inl, inr, Bool, not, List, [], ◌∷◌, ◌++◌, length, Option, Some, None, refl, sym, ◌∙◌, ap, subst, arith, append_assoc}
-use Rattle.std.specs.Prelude.{filter}
+use Rattle.std.proofs.Common.{◌≡◌, ℕ, suc, ◌+◌, ◌⊎◌, inl, inr, Bool, List, [], ◌∷◌, ◌++◌, length, Option, Some, None, refl, sym, ◌∙◌, ap, subst, arith, append_assoc}
 use Rattle.std.proofs.lemmas.List.{append-nil, length-append}
-use Rattle.kk_syntax.specs.Shapes.{is_among}
 use Rattle.kk_source.specs.Matching.{and_then}
 use Rattle.kk_counted.specs.BareForms.{bare}
 use Rattle.kk_counted.specs.CodePlaces.{part_of, code_at}
@@ -14,7 +12,7 @@ use Rattle.rv_isa.specs.declared.asm.Operation.TheVariants as Op
 use Rattle.rv_isa.specs.AsmCode.{Line}
 use Rattle.rv_lower.specs.Lines.{sets, copies_to, acts}
 use Rattle.rv_lower.specs.Lowered.{Goal, joins}
-use Rattle.rv_cells.specs.CellLines.{dup_lines, drop_lines, drops_lines, hold_line, back_line, TokenUniqueLines}
+use Rattle.rv_cells.specs.CellLines.{dup_lines, drop_lines, alone_lines, hold_line, back_line, TokenUniqueLines}
 use Rattle.rv_cells.specs.declared.compare.Branching.{Branching}
 use Rattle.rv_cells.specs.ComparisonBranch.{branch_of}
 use Rattle.rv_cells.specs.CountedLines.{Setting}
@@ -78,12 +76,11 @@ entry_part (Some into) token filled before rest more =
     part (0 ∷ []) before (tree rest (entry_lines token into filled) no_part) more
 
 -- the lines of an opening in front of them
-abbrev pub lines_before_entry : (base : ℕ) (holds : ℕ → Bool) (shared behind filled x : ℕ) (fields used : List ℕ) (token : ℕ)
-    (into : Option ℕ) (lines : List Line) → TokenUniqueLines base holds shared behind filled x fields used token into lines → List
+abbrev pub lines_before_entry : (base : ℕ) (holds : ℕ → Bool) (second behind filled x : ℕ) (fields used : List ℕ) (token : ℕ)
+    (into : Option ℕ) (lines : List Line) → TokenUniqueLines base holds second behind filled x fields used token into lines → List
     Line
-lines_before_entry base holds shared behind filled x fields used token into lines is =
-    is.0 ∷ sets 1 (base + 1) ∷ acts (Branch NotEqual shared) (base ∷ (base + 1) ∷ [])
-    ∷ (is.1 ++ (drops_lines holds (filter (λ y. not (is_among used y)) fields) ++ (copies_to x token ∷ [])))
+lines_before_entry base holds second behind filled x fields used token into lines is =
+    is.0 ∷ sets 1 (base + 1) ∷ acts (Branch NotEqual second) (base ∷ (base + 1) ∷ []) ∷ alone_lines holds x fields used token is.1
 
 module _ (setting : Setting) (variables : ℕ) where
   abbrev mutual
@@ -156,25 +153,15 @@ module _ (setting : Setting) (variables : ℕ) where
       → CodeLines setting variables goal low code own high → Tree
   tree_in goal low code own high lines = tree_behind None goal low code own high lines
 
--- lines behind loads, drops and a copy, in front of others
-pub entry_passed : (loads drops entry others : List Line) (copy : Line) → (loads ++ (drops ++ (copy ∷ entry))) ++ others
-    ≡ (loads ++ (drops ++ (copy ∷ []))) ++ (entry ++ others)
-entry_passed loads drops entry others copy =
-    append_assoc loads (drops ++ (copy ∷ entry)) others
-    ∙ ap (λ ls. loads ++ ls) (append_assoc drops (copy ∷ entry) others)
-    ∙ sym (append_assoc loads (drops ++ (copy ∷ [])) (entry ++ others)
-    ∙ ap (λ ls. loads ++ ls) (append_assoc drops (copy ∷ []) (entry ++ others)))
-
 -- such lines are there
-pub entry_there : (base : ℕ) (holds : ℕ → Bool) (shared behind filled x : ℕ) (fields used : List ℕ) (token into : ℕ)
-    (lines : List Line) (is : TokenUniqueLines base holds shared behind filled x fields used token (Some into) lines)
-    → (after : List Line) × (lines ≡ lines_before_entry base holds shared behind filled x fields used token (Some into) lines is
+pub entry_there : (base : ℕ) (holds : ℕ → Bool) (second behind filled x : ℕ) (fields used : List ℕ) (token into : ℕ)
+    (lines : List Line) (is : TokenUniqueLines base holds second behind filled x fields used token (Some into) lines)
+    → (after : List Line) × (lines ≡ lines_before_entry base holds second behind filled x fields used token (Some into) lines is
     ++ (entry_lines token into filled ++ after))
-entry_there base holds shared behind filled x fields used token into lines is = (
+entry_there base holds second behind filled x fields used token into lines is = (
   _,
-  is.10 ∙ ap (λ ls. is.0 ∷ sets 1 (base + 1) ∷ acts (Branch NotEqual shared) (base ∷ (base + 1) ∷ []) ∷ ls)
-      (entry_passed is.1 (drops_lines holds (filter (λ y. not (is_among used y)) fields)) (entry_lines token into filled) _
-      (copies_to x token)),
+  is.10 ∙ ap (λ ls. is.0 ∷ sets 1 (base + 1) ∷ acts (Branch NotEqual second) (base ∷ (base + 1) ∷ []) ∷ ls)
+      (append_assoc (alone_lines holds x fields used token is.1) (entry_lines token into filled) _),
 )
 
 -- what is a part behind such lines is one with them

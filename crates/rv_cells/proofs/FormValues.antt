@@ -14,11 +14,11 @@ use Rattle.rv_isa.specs.declared.routine.Routine.TheVariants.{Take, Drop}
 use Rattle.rv_isa.specs.AsmCode.{Line}
 use Rattle.rv_isa.specs.ValueBounds.{AreValuesBelow, IsLineBelow, AreLinesBelow}
 use Rattle.rv_isa.proofs.ValueBounds.{lines_joined}
-use Rattle.rv_lower.specs.Lines.{computes, sets, acts}
+use Rattle.rv_lower.specs.Lines.{computes, sets, copies_to, acts}
 use Rattle.rv_cells.specs.Layout.{Layout, first_field}
 use Rattle.rv_cells.specs.CellLines.{Loads, Stores, AllLoads, AllStores, StoresIf, SomeStores, SetIf, is_kept, dup_lines, drop_lines}
 use Rattle.rv_cells.specs.CellLines.{dups_lines, drops_lines, ConstructLines, hold_line, hold_lines, unhold_lines, SomeWords, FillLines}
-use Rattle.rv_cells.specs.CellLines.{CountLines, token_ends, Walks, walked, spare, equal_lines, jump_lines, either_lines}
+use Rattle.rv_cells.specs.CellLines.{both_ways, TokenUniqueLines, Walks, walked, spare, equal_lines, jump_lines, either_lines}
 use Rattle.rv_cells.specs.CountedLines.{answer_word, answer_tag, Ways, number_tests, last_lines, ChoiceLines, OddLines, DecideLines}
 use Rattle.rv_cells.specs.CountedLines.{TestLines, first_lines, NodeLines, NodesLines}
 
@@ -157,51 +157,58 @@ module _ (most : ℕ) where
         ),
       )
 
-  -- an opening, by the lines at its ends
-  pub count_below : (base : ℕ) (holds : ℕ → Bool) (shared behind x : ℕ) (fields used : List ℕ) (ends begins lines : List Line)
-      → base + 1 < most → x < most → AreValuesBelow most fields → AreLinesBelow most ends → AreLinesBelow most begins
-      → CountLines base holds shared behind x fields used ends begins lines → AreLinesBelow most lines
-  count_below base holds shared behind x fields used ends begins lines room less below ends_below begins_below is =
+  -- both ways of an opening, and the opening
+  ways_below : (into : Option ℕ) (second behind filled token : ℕ) (alone shared : List Line) → token < most
+      → ((y : ℕ) → into ≡ Some y → y < most) → AreLinesBelow most alone → AreLinesBelow most shared
+      → AreLinesBelow most (both_ways into second behind filled token alone shared)
+  ways_below None second behind filled token alone shared less into_less alone_is shared_is =
+      lines_joined most (shared ++ (acts (Jump behind) [] ∷ []))
+      ((acts (Label second) [] ∷ alone) ++ (acts (Label behind) [] ∷ []))
+      (lines_joined most shared (acts (Jump behind) [] ∷ []) shared_is ((tt, tt), tt))
+      (lines_joined most (acts (Label second) [] ∷ alone) (acts (Label behind) [] ∷ []) ((tt, tt), alone_is) ((tt, tt), tt))
+  ways_below (Some y) second behind filled token alone shared less into_less alone_is shared_is =
+      lines_joined most (alone ++ (copies_to token y ∷ acts (Jump filled) [] ∷ []))
+      ((acts (Label second) [] ∷ shared) ++ (acts (Label behind) [] ∷ []))
+      (lines_joined most alone (copies_to token y ∷ acts (Jump filled) [] ∷ []) alone_is
+      (((less, tt), into_less y refl), ((tt, tt), tt)))
+      (lines_joined most (acts (Label second) [] ∷ shared) (acts (Label behind) [] ∷ []) ((tt, tt), shared_is) ((tt, tt), tt))
+
+  pub token_unique_below : (base : ℕ) (holds : ℕ → Bool) (second behind filled x : ℕ) (fields used : List ℕ) (token : ℕ)
+      (into : Option ℕ) (lines : List Line) → base + 1 < most → x < most → token < most
+      → ((y : ℕ) → into ≡ Some y → y < most) → AreValuesBelow most fields
+      → TokenUniqueLines base holds second behind filled x fields used token into lines → AreLinesBelow most lines
+  token_unique_below base holds second behind filled x fields used token into lines room less token_less into_less below is =
       let base_less : base < most = omega (arith, room) in
       let loads = loads_below x 2 fields is.1 less below is.6 in
       let unused : List ℕ = filter (λ y. not (is_among used y)) fields in
       let kept : List ℕ = filter (is_among used) fields in
-      let shares : List Line = is.2 ∷ computes (Op.Immediate Addi is.3) (base ∷ []) base ∷ is.4 ∷ dups_lines holds kept in
+      let dropped : List Line = drops_lines holds unused ++ (copies_to x token ∷ []) in
+      let lowered : List Line = is.2 ∷ computes (Op.Immediate Addi is.3) (base ∷ []) base ∷ is.4 ∷ dups_lines holds kept in
       subst (AreLinesBelow most) (sym is.10) (
         load_below x 0 base is.0 less base_less is.5,
         (
           (tt, room),
           (
             ((base_less, (room, tt)), tt),
-            lines_joined most (is.1 ++ (drops_lines holds unused ++ ends))
-                ((acts (Label shared) [] ∷ (begins ++ (is.1 ++ shares))) ++ (acts (Label behind) [] ∷ []))
-                (lines_joined most is.1 (drops_lines holds unused ++ ends) loads
-                (lines_joined most (drops_lines holds unused) ends
-                (drops_below holds unused (some_below (λ y. not (is_among used y)) fields below)) ends_below))
-                (lines_joined most (acts (Label shared) [] ∷ (begins ++ (is.1 ++ shares))) (acts (Label behind) [] ∷ []) (
-                  (tt, tt),
-                  lines_joined most begins (is.1 ++ shares) begins_below
-                      (lines_joined most is.1 shares loads (
-                        load_below x 0 base is.2 less base_less is.7,
-                        (
-                          ((base_less, tt), base_less),
-                          (
-                            store_below x 0 base is.4 less base_less is.9,
-                            dups_below holds kept (some_below (is_among used) fields below),
-                          ),
-                        ),
-                      )),
-                )
-                ((tt, tt), tt)),
+            ways_below into second behind filled token (is.1 ++ dropped) (sets 0 token ∷ (is.1 ++ lowered)) token_less into_less
+                (lines_joined most is.1 dropped loads
+                (lines_joined most (drops_lines holds unused) (copies_to x token ∷ [])
+                (drops_below holds unused (some_below (λ y. not (is_among used y)) fields below)) (((less, tt), token_less), tt))) (
+                  (tt, token_less),
+                  lines_joined most is.1 lowered loads (
+                    load_below x 0 base is.2 less base_less is.7,
+                    (
+                      ((base_less, tt), base_less),
+                      (
+                        store_below x 0 base is.4 less base_less is.9,
+                        dups_below holds kept (some_below (is_among used) fields below),
+                      ),
+                    ),
+                  ),
+                ),
           ),
         ),
       )
-
-  pub ends_below : (into : Option ℕ) (x token behind filled : ℕ) → x < most → token < most
-      → ((y : ℕ) → into ≡ Some y → y < most) → AreLinesBelow most (token_ends into x token behind filled)
-  ends_below None x token behind filled less token_less into_less = (((less, tt), token_less), ((tt, tt), tt))
-  ends_below (Some y) x token behind filled less token_less into_less =
-      (((less, tt), token_less), (((token_less, tt), into_less y refl), ((tt, tt), tt)))
 
   -- ---- tests
 

@@ -6,7 +6,8 @@ use Rattle.std.specs.Prelude.{filter}
 use Rattle.std.proofs.lemmas.Bool.{false≢true, or_cases, or_left, or_right, eq-eqb}
 use Rattle.kk_syntax.specs.Shapes.{is_among as is_bound}
 use Rattle.rv_isa.specs.declared.asm.Action.TheVariants.{Label, Jump, Branch}
-use Rattle.rv_isa.specs.declared.asm.Condition.TheVariants.{NotEqual}
+use Rattle.rv_isa.specs.declared.asm.Condition.{Condition}
+use Rattle.rv_isa.specs.declared.asm.Condition.TheVariants.{Equal, NotEqual}
 use Rattle.rv_isa.specs.declared.asm.Operation.TheVariants as Op
 use Rattle.rv_isa.specs.declared.asm.ImmediateOperation.TheVariants.{Addi}
 use Rattle.rv_isa.specs.declared.immediate.Immediate.{Immediate}
@@ -20,7 +21,7 @@ use Rattle.rv_lower.proofs.WellFormedness.{good_hands, readable_small, readable_
 use Rattle.rv_lower.proofs.AbsentLabels.{HasNo, has_no_append, found_past, found_here, alive_at_past, alive_at_here, other_label}
 use Rattle.rv_lower.proofs.Operations.{Leads, leads_then, leads_weaker, next_temporary, only_bound}
 use Rattle.rv_lower.proofs.Codes.{Ahead, Fits, StandsAhead, stands_past, good_alone, good_label, goal_up}
-use Rattle.rv_cells.specs.CellLines.{Loads, Stores, AllLoads, dups_lines, drops_lines, token_ends, TokenUniqueLines}
+use Rattle.rv_cells.specs.CellLines.{Loads, Stores, AllLoads, dups_lines, drops_lines, alone_lines, goes_second, both_ways, TokenUniqueLines}
 use Rattle.rv_cells.proofs.CellForms.{one_store, loads_lead, dups_lead, drops_lead}
 use Rattle.rv_cells.proofs.CellForms.{room_list, kept_list, bound_fields, bound_filter}
 use Rattle.rv_cells.proofs.FormedOrders.{listed_behind}
@@ -36,9 +37,6 @@ module _ (base : ℕ) (bound : List ℕ) (has : HasRoom base bound) (holds : ℕ
 
   abbrev kept : List ℕ
   kept = filter (is_bound used) fields
-
-  abbrev dropped : List ℕ
-  dropped = filter (λ y. not (is_bound used y)) fields
 
   abbrev Before : ℕ → Type 0
   Before = Readable base base bound
@@ -90,38 +88,21 @@ module _ (base : ℕ) (bound : List ℕ) (has : HasRoom base bound) (holds : ℕ
       leads_then Before Taken Taken (length fields) (1 + (1 + (1 + length kept))) loads _
       (loads_lead base bound x 2 fields loads has is below all_loads) (lowers count store less loads_count stores)
 
-  -- By what is bound behind it: the lines for a cell that nothing else refers to lead to a label ahead, past those of the way of a
-  -- shared cell, and these lead there.
+  -- By what is bound behind it: the first way leads to a label ahead, past those of the second one, and these lead behind it.
   module _ (behind outer : List ℕ) (goal : Goal) (low high : ℕ) (more : List Line)
-      (fits : Fits base behind outer goal (low + 2) high more) (loads : List Line) (all_loads : AllLoads x first_field fields loads)
-      (ends : List Line) (ends_none : (l : ℕ) → HasNo l ends)
-      (ends_good : (front tail : List Line) → HasNo (low + 1) front → HasNo (low + 2) front
+      (fits : Fits base behind outer goal (low + 2) high more) (first : List Line) (first_none : (l : ℕ) → HasNo l first)
+      (first_good : (front tail : List Line) → HasNo (low + 1) front → HasNo (low + 2) front
       → Good (Readable base base behind) (more ++ tail) → AreFormed (front ++ (acts (Label (low + 1)) [] ∷ (more ++ tail)))
-      → Good Taken (ends ++ (front ++ (acts (Label (low + 1)) [] ∷ (more ++ tail))))) (lowered : List Line) (size : ℕ)
-      (lowered_lead : Leads Before (Readable base base behind) size lowered) where
+      → Good Before (first ++ (front ++ (acts (Label (low + 1)) [] ∷ (more ++ tail))))) (second : List Line) (size : ℕ)
+      (second_leads : Leads Before (Readable base base behind) size second) where
     abbrev Behind : ℕ → Type 0
     Behind = Readable base base behind
 
-    -- the way of a cell that nothing else refers to, and the way of a shared one
-    abbrev alone : List Line
-    alone = loads ++ (drops_lines holds dropped ++ ends)
-
-    abbrev shared : List Line
-    shared = acts (Label low) [] ∷ lowered
+    abbrev other : List Line
+    other = acts (Label low) [] ∷ second
 
     abbrev at_end : List Line
     at_end = acts (Label (low + 1)) [] ∷ []
-
-    loads_fit : Leads Before Taken (length fields) loads
-    loads_fit = loads_lead base bound x 2 fields loads has is below all_loads
-
-    drops_fit : Leads Taken Taken (length dropped) (drops_lines holds dropped)
-    drops_fit = drops_lead base taken holds dropped room_taken
-        (bound_filter taken (λ y. not (is_bound used y)) fields (bound_fields bound fields)).0
-
-    alone_none : (l : ℕ) → HasNo l alone
-    alone_none l = has_no_append l loads _ (loads_fit.no_label l)
-        (has_no_append l (drops_lines holds dropped) _ (drops_fit.no_label l) (ends_none l))
 
     module _ (tail : List Line) (ahead : Ahead base outer goal low high tail) where
       abbrev rest : List Line
@@ -141,43 +122,42 @@ module _ (base : ℕ) (bound : List ℕ) (has : HasRoom base bound) (holds : ℕ
       rest_good : Good Behind rest
       rest_good = good_label Behind (low + 1) (more ++ tail) (more_none (low + 1) (omega arith) (omega arith)) more_good
 
-      lowered_good : Good Before (lowered ++ rest)
-      lowered_good = lowered_lead.good rest rest_good
+      second_good : Good Before (second ++ rest)
+      second_good = second_leads.good rest rest_good
 
-      shared_good : Good Before (shared ++ rest)
-      shared_good = good_label Before low (lowered ++ rest)
-          (has_no_append low lowered rest (lowered_lead.no_label low) (
+      other_good : Good Before (other ++ rest)
+      other_good = good_label Before low (second ++ rest)
+          (has_no_append low second rest (second_leads.no_label low) (
             other_label low (low + 1) (λ same. absurd (omega (arith, same))),
             more_none low (omega arith)
                 (omega arith),
-          )) lowered_good
+          )) second_good
 
-      shared_none : (l : ℕ) → (low ≡ l → ⊥) → HasNo l shared
-      shared_none l other = (other_label l low other, lowered_lead.no_label l)
+      other_none : (l : ℕ) → (low ≡ l → ⊥) → HasNo l other
+      other_none l differ = (other_label l low differ, second_leads.no_label l)
 
-      alone_good : Good Before (alone ++ (shared ++ rest))
-      alone_good = subst (Good Before) (sym (assoc_inner loads (drops_lines holds dropped) ends (shared ++ rest)))
-          (loads_fit.good _ (drops_fit.good _ (ends_good shared tail (shared_none (low + 1) (λ same. omega (arith, same)))
-          (shared_none (low + 2) (λ same. omega (arith, same))) more_good shared_good.formed)))
+      both_good : Good Before (first ++ (other ++ rest))
+      both_good = first_good other tail (other_none (low + 1) (λ same. omega (arith, same)))
+          (other_none (low + 2) (λ same. omega (arith, same))) more_good other_good.formed
 
       alive_either : (v : ℕ)
-          → (is_alive v (alone ++ (shared ++ rest)) ≡ true) ⊎ (is_alive_at low v (alone ++ (shared ++ rest)) ≡ true)
+          → (is_alive v (first ++ (other ++ rest)) ≡ true) ⊎ (is_alive_at low v (first ++ (other ++ rest)) ≡ true)
           → Before v
-      alive_either v (inl alive) = alone_good.alive v alive
-      alive_either v (inr alive) = lowered_good.alive v
-          (sym (alive_at_past low v alone (shared ++ rest) (alone_none low) ∙ alive_at_here low v (lowered ++ rest)) ∙ alive)
+      alive_either v (inl alive) = both_good.alive v alive
+      alive_either v (inr alive) = second_good.alive v
+          (sym (alive_at_past low v first (other ++ rest) (first_none low) ∙ alive_at_here low v (second ++ rest)) ∙ alive)
 
-      test_good : (test : Line) → Loads x 0 base test
-          → Good Before (test ∷ sets 1 (base + 1) ∷ acts (Branch NotEqual low) (base ∷ (base + 1) ∷ []) ∷ (alone ++
-          (shared ++ rest)))
-      test_good test loads_test = tested.good _ (one_set.good _
+      test_good : (condition : Condition) (test : Line) → Loads x 0 base test
+          → Good Before (test ∷ sets 1 (base + 1) ∷ acts (Branch condition low) (base ∷ (base + 1) ∷ []) ∷ (first ++
+          (other ++ rest)))
+      test_good condition test loads_test = tested.good _ (one_set.good _
           (weaker (readable_more base (base + 2) (base + 1 + 1) bound (omega arith))
-          (good_hands base bound (x ∷ x ∷ []) (Branch NotEqual low) None (alone ++ (shared ++ rest)) has
-          (subst IsSome (sym (found_past low alone (shared ++ rest) (alone_none low) ∙ found_here low (lowered ++ rest))) refl) tt
+          (good_hands base bound (x ∷ x ∷ []) (Branch condition low) None (first ++ (other ++ rest)) has
+          (subst IsSome (sym (found_past low first (other ++ rest) (first_none low) ∙ found_here low (second ++ rest))) refl) tt
           (omega arith) (omega arith) (λ is. absurd (false≢true is)) (λ v is. absurd (none_some is))
-          (λ v other is. only_bound base bound has v (alive_either v
-          (or_cases (is_alive v (alone ++ (shared ++ rest))) (is_alive_at low v (alone ++ (shared ++ rest))) is)))
-          alone_good.formed)))
+          (λ v other_is is. only_bound base bound has v (alive_either v
+          (or_cases (is_alive v (first ++ (other ++ rest))) (is_alive_at low v (first ++ (other ++ rest))) is)))
+          both_good.formed)))
         where
           tested : Leads Before (Readable base (base + 1) bound) 1 (test ∷ [])
           tested = subst (λ (l : Line). Leads Before (Readable base (base + 1) bound) 1 (l ∷ [])) (sym loads_test.2)
@@ -186,10 +166,10 @@ module _ (base : ℕ) (bound : List ℕ) (has : HasRoom base bound) (holds : ℕ
           one_set : Leads (Readable base (base + 1) bound) (Readable base (base + 1 + 1) bound) 1 (sets 1 (base + 1) ∷ [])
           one_set = next_temporary base bound has (base + 1) (Op.Li 1) [] (omega arith) refl (omega arith) tt
 
-    counted_none : (l : ℕ) → (l < low) ⊎ (high ≤ l) → HasNo l ((alone ++ (shared ++ at_end)) ++ more)
-    counted_none l apart = has_no_append l (alone ++ (shared ++ at_end)) more
-        (has_no_append l alone (shared ++ at_end) (alone_none l)
-        (has_no_append l shared at_end (other_label l low (λ same. differs same apart), lowered_lead.no_label l)
+    counted_none : (l : ℕ) → (l < low) ⊎ (high ≤ l) → HasNo l ((first ++ (other ++ at_end)) ++ more)
+    counted_none l apart = has_no_append l (first ++ (other ++ at_end)) more
+        (has_no_append l first (other ++ at_end) (first_none l)
+        (has_no_append l other at_end (other_label l low (λ same. differs same apart), second_leads.no_label l)
         (other_label l (low + 1) (λ same. differs_more same apart), tt)))
         (fits.none l (later apart))
       where
@@ -205,9 +185,9 @@ module _ (base : ℕ) (bound : List ℕ) (has : HasRoom base bound) (holds : ℕ
         later (inl under) = inl (omega (arith, under))
         later (inr above) = inr above
 
-    counted_fits : (test : Line) → Loads x 0 base test → Fits base bound outer goal low high
-        ((test ∷ sets 1 (base + 1) ∷ acts (Branch NotEqual low) (base ∷ (base + 1) ∷ []) ∷ (alone ++ (shared ++ at_end))) ++ more)
-    counted_fits test loads_test = record {
+    counted_fits : (condition : Condition) (test : Line) → Loads x 0 base test → Fits base bound outer goal low high
+        ((test ∷ sets 1 (base + 1) ∷ acts (Branch condition low) (base ∷ (base + 1) ∷ []) ∷ (first ++ (other ++ at_end))) ++ more)
+    counted_fits condition test loads_test = record {
       up = let up = fits.up in omega (arith, up);
       none = λ l apart. (
         (subst (λ (line : Line). HasNo l (line ∷ [])) (sym loads_test.2) (refl, tt)).0,
@@ -215,9 +195,9 @@ module _ (base : ℕ) (bound : List ℕ) (has : HasRoom base bound) (holds : ℕ
       );
       good = λ tail ahead. subst
           (λ (code : List Line). Good Before
-          (test ∷ sets 1 (base + 1) ∷ acts (Branch NotEqual low) (base ∷ (base + 1) ∷ []) ∷ code))
-          (sym (append_assoc (alone ++ (shared ++ at_end)) more tail ∙ assoc_inner alone shared at_end (more ++ tail)))
-          (test_good tail ahead test loads_test);
+          (test ∷ sets 1 (base + 1) ∷ acts (Branch condition low) (base ∷ (base + 1) ∷ []) ∷ code))
+          (sym (append_assoc (first ++ (other ++ at_end)) more tail ∙ assoc_inner first other at_end (more ++ tail)))
+          (test_good tail ahead condition test loads_test);
     }
 
 -- a construction's test of its token leads to a label at which no more values are alive than it has
@@ -247,13 +227,19 @@ pub fits_token_unique : (base : ℕ) (bound outer : List ℕ) → HasRoom base b
     × (more ≡ copies_to token made ∷ acts (Branch NotEqual (low + 2)) (made ∷ []) ∷ others)))
     → Fits base (token ∷ bound_list fields bound) outer goal (low + 2) high more → Fits base bound outer goal low high (own ++ more)
 fits_token_unique base bound outer has holds x is fields used below token less goal low high into own more unique entered fits =
-    subst (λ (lines : List Line). Fits base bound outer goal low high (lines ++ more)) (sym unique.10)
-    (counted_fits base bound has holds x is fields used below (token ∷ after) outer goal low high more fits unique.1 unique.6
-    (token_ends into x token (low + 1) (low + 2)) (ends_none into) (ends_good into entered) (sets 0 token ∷ lowered) _ begins
-    unique.0 unique.5)
+    subst (λ (lines : List Line). Fits base bound outer goal low high (lines ++ more)) (sym unique.10) (by into entered)
   where
     after : List ℕ
     after = bound_list fields bound
+
+    Before : ℕ → Type 0
+    Before = Readable base base bound
+
+    Behind : ℕ → Type 0
+    Behind = Readable base base (token ∷ after)
+
+    unused : List ℕ
+    unused = filter (λ y. not (is_bound used y)) fields
 
     size : ℕ
     size = length fields + (1 + (1 + (1 + length (filter (is_bound used) fields))))
@@ -262,45 +248,90 @@ fits_token_unique base bound outer has holds x is fields used below token less g
     lowered = unique.1 ++ (unique.2 ∷ computes (Op.Immediate Addi unique.3) (base ∷ []) base ∷ unique.4 ∷ dups_lines holds
         (filter (is_bound used) fields))
 
-    ends_none : (filled : Option ℕ) (l : ℕ) → HasNo l (token_ends filled x token (low + 1) (low + 2))
-    ends_none None l = (refl, (refl, tt))
-    ends_none (Some made) l = (refl, (refl, (refl, tt)))
+    -- the way of a cell that nothing else refers to, and that of a shared one
+    alone : List Line
+    alone = alone_lines holds x fields used token unique.1
+
+    shared : List Line
+    shared = sets 0 token ∷ lowered
 
     has_after : HasRoom base after
     has_after = room_list base bound fields has below
 
+    loads_lead_on : Leads Before (Readable base base after) (length fields) unique.1
+    loads_lead_on = loads_lead base bound x 2 fields unique.1 has is below unique.6
+
+    drops_lead_on : Leads (Readable base base after) (Readable base base after) (length unused) (drops_lines holds unused)
+    drops_lead_on = drops_lead base after holds unused has_after
+        (bound_filter after (λ y. not (is_bound used y)) fields (bound_fields bound fields)).0
+
     -- the value of the slot is written
-    written : (rest : List Line) → Good (Readable base base (token ∷ after)) rest
-        → Good (Readable base base after) (copies_to x token ∷ rest)
-    written rest good = to_variable base base after Op.Mv (x ∷ []) token rest has_after (omega arith) refl (omega arith)
-        (inl (kept_list bound fields x is), tt) less good
+    written : Leads (Readable base base after) Behind 1 (copies_to x token ∷ [])
+    written = record {
+      no_label = λ l. (refl, tt);
+      few = omega arith;
+      good = λ rest good. to_variable base base after Op.Mv (x ∷ []) token rest has_after (omega arith) refl (omega arith)
+          (inl (kept_list bound fields x is), tt) less good;
+    }
+
+    alone_leads : Leads Before Behind (length fields + (length unused + 1)) alone
+    alone_leads = leads_then Before (Readable base base after) Behind (length fields) (length unused + 1) unique.1
+        (drops_lines holds unused ++ (copies_to x token ∷ [])) loads_lead_on
+        (leads_then (Readable base base after) (Readable base base after) Behind (length unused) 1 (drops_lines holds unused)
+        (copies_to x token ∷ []) drops_lead_on written)
+
+    nulls : Leads Before (Readable base base (token ∷ bound)) 1 (sets 0 token ∷ [])
+    nulls = record {
+      no_label = λ l. (refl, tt);
+      few = omega arith;
+      good = λ rest good. to_variable base base bound (Op.Li 0) [] token rest has (omega arith) refl (omega arith) tt less good;
+    }
+
+    lowers_lead : Leads (Readable base base (token ∷ bound)) Behind size lowered
+    lowers_lead = leads_weaker (Readable base base (token ∷ bound)) (Readable base base (token ∷ bound))
+        (Readable base base (bound_list fields (token ∷ bound))) Behind size size lowered
+        (λ v readable. readable)
+        (readable_within base base (token ∷ after) (bound_list fields (token ∷ bound)) (listed_behind fields bound token))
+        (omega arith)
+        (lowered_leads base (token ∷ bound) (room_more base bound token has less) holds x
+        (or_right (token == x) (is_bound bound x) is) fields used below unique.1 unique.6 unique.2 unique.4 unique.3 unique.7
+        unique.9)
+
+    shared_leads : Leads Before Behind (1 + size) shared
+    shared_leads = leads_then Before (Readable base base (token ∷ bound)) Behind 1 size (sets 0 token ∷ []) lowered nulls
+        lowers_lead
 
     -- a jump to a label ahead
     jumps : (B : ℕ → Type 0) (label : ℕ) (rest : List Line) → StandsAhead B label rest → AreFormed rest
         → Good B (acts (Jump label) [] ∷ rest)
     jumps B label rest ahead formed = good_alone B (Jump label) rest ahead.0 tt ahead.1 formed
 
-    ends_good : (filled : Option ℕ)
-        → ((made : ℕ) → filled ≡ Some made → (made < base) × ((others : List Line)
-        × (more ≡ copies_to token made ∷ acts (Branch NotEqual (low + 2)) (made ∷ []) ∷ others)))
-        → (front tail : List Line) → HasNo (low + 1) front → HasNo (low + 2) front
-        → Good (Readable base base (token ∷ after)) (more ++ tail)
+    -- the way of a shared cell leads behind the opening
+    jump_good : (front tail : List Line) → HasNo (low + 1) front → HasNo (low + 2) front → Good Behind (more ++ tail)
         → AreFormed (front ++ (acts (Label (low + 1)) [] ∷ (more ++ tail)))
-        → Good (Readable base base after)
-        (token_ends filled x token (low + 1) (low + 2) ++ (front ++ (acts (Label (low + 1)) [] ∷ (more ++ tail))))
-    ends_good None begins front tail none none_too good formed =
+        → Good Before ((shared ++ (acts (Jump (low + 1)) [] ∷ [])) ++ (front ++ (acts (Label (low + 1)) [] ∷ (more ++ tail))))
+    jump_good front tail none none_too good formed =
         let rest = acts (Label (low + 1)) [] ∷ (more ++ tail) in
-        written (acts (Jump (low + 1)) [] ∷ (front ++ rest))
-        (jumps (Readable base base (token ∷ after)) (low + 1) (front ++ rest)
-        (stands_past (Readable base base (token ∷ after)) (low + 1) front rest none (
+        subst (Good Before) (sym (append_assoc shared (acts (Jump (low + 1)) [] ∷ []) (front ++ rest)))
+        (shared_leads.good (acts (Jump (low + 1)) [] ∷ (front ++ rest))
+        (jumps Behind (low + 1) (front ++ rest)
+        (stands_past Behind (low + 1) front rest none (
           subst IsSome (sym (found_here (low + 1) (more ++ tail))) refl,
           λ v alive. good.alive v (sym (alive_at_here (low + 1) v (more ++ tail)) ∙ alive),
-        )) formed)
-    ends_good (Some made) begins front tail none none_too good formed =
+        )) formed))
+
+    -- the other way leads behind the test of a construction
+    entry_of : ℕ → List Line
+    entry_of made = copies_to token made ∷ acts (Jump (low + 2)) [] ∷ []
+
+    entry_good : (made : ℕ) → (made < base) × ((others : List Line)
+        × (more ≡ copies_to token made ∷ acts (Branch NotEqual (low + 2)) (made ∷ []) ∷ others))
+        → (front tail : List Line) → HasNo (low + 1) front → HasNo (low + 2) front → Good Behind (more ++ tail)
+        → AreFormed (front ++ (acts (Label (low + 1)) [] ∷ (more ++ tail)))
+        → Good Before ((alone ++ entry_of made) ++ (front ++ (acts (Label (low + 1)) [] ∷ (more ++ tail))))
+    entry_good made first front tail none none_too good formed =
         let rest = acts (Label (low + 1)) [] ∷ (more ++ tail) in
-        let first = begins made refl in
         let low_made = first.0 in
-        let Behind = Readable base base (token ∷ after) in
         let With = Readable base base (made ∷ token ∷ after) in
         let others = first.1.0 in
         let there : StandsAhead With (low + 2) (more ++ tail)
@@ -310,29 +341,26 @@ fits_token_unique base bound outer has holds x is fields used below token less g
         let label_there : StandsAhead With (low + 2) rest
         = stands_past With (low + 2) (acts (Label (low + 1)) [] ∷ []) (more ++ tail)
         (other_label (low + 2) (low + 1) (λ same. omega (arith, same)), tt) there in
-        written (copies_to token made ∷ acts (Jump (low + 2)) [] ∷ (front ++ rest))
+        subst (Good Before) (sym (append_assoc alone (entry_of made) (front ++ rest)))
+        (alone_leads.good (entry_of made ++ (front ++ rest))
         (to_variable base base (token ∷ after) Op.Mv (token ∷ []) made (acts (Jump (low + 2)) [] ∷ (front ++ rest))
         (room_more base after token has_after less) (omega arith) refl (omega arith)
         (inl (or_left (token == token) (is_bound after token) (eq-eqb token token refl)), tt) low_made
-        (jumps With (low + 2) (front ++ rest) (stands_past With (low + 2) front rest none_too label_there) formed))
+        (jumps With (low + 2) (front ++ rest) (stands_past With (low + 2) front rest none_too label_there) formed)))
 
-    nulls : Leads (Readable base base bound) (Readable base base (token ∷ bound)) 1 (sets 0 token ∷ [])
-    nulls = record {
-      no_label = λ l. (refl, tt);
-      few = omega arith;
-      good = λ rest good. to_variable base base bound (Op.Li 0) [] token rest has (omega arith) refl (omega arith) tt less good;
-    }
-
-    shared : Leads (Readable base base (token ∷ bound)) (Readable base base (token ∷ after)) size lowered
-    shared = leads_weaker (Readable base base (token ∷ bound)) (Readable base base (token ∷ bound))
-        (Readable base base (bound_list fields (token ∷ bound))) (Readable base base (token ∷ after)) size size lowered
-        (λ v readable. readable)
-        (readable_within base base (token ∷ after) (bound_list fields (token ∷ bound)) (listed_behind fields bound token))
-        (omega arith)
-        (lowered_leads base (token ∷ bound) (room_more base bound token has less) holds x
-        (or_right (token == x) (is_bound bound x) is) fields used below unique.1 unique.6 unique.2 unique.4 unique.3 unique.7
-        unique.9)
-
-    begins : Leads (Readable base base bound) (Readable base base (token ∷ after)) (1 + size) (sets 0 token ∷ lowered)
-    begins = leads_then (Readable base base bound) (Readable base base (token ∷ bound)) (Readable base base (token ∷ after)) 1 size
-        (sets 0 token ∷ []) lowered nulls shared
+    by : (going : Option ℕ)
+        → ((made : ℕ) → going ≡ Some made → (made < base) × ((others : List Line)
+        × (more ≡ copies_to token made ∷ acts (Branch NotEqual (low + 2)) (made ∷ []) ∷ others)))
+        → Fits base bound outer goal low high
+        ((unique.0 ∷ sets 1 (base + 1) ∷ acts (Branch (goes_second going) low) (base ∷ (base + 1) ∷ [])
+        ∷ both_ways going low (low + 1) (low + 2) token alone shared) ++ more)
+    by None begins =
+        counted_fits base bound has holds x is fields used below (token ∷ after) outer goal low high more fits
+        (shared ++ (acts (Jump (low + 1)) [] ∷ []))
+        (λ l. has_no_append l shared (acts (Jump (low + 1)) [] ∷ []) (shared_leads.no_label l) (refl, tt)) jump_good alone _
+        alone_leads Equal unique.0 unique.5
+    by (Some made) begins =
+        counted_fits base bound has holds x is fields used below (token ∷ after) outer goal low high more fits
+        (alone ++ entry_of made)
+        (λ l. has_no_append l alone (entry_of made) (alone_leads.no_label l) (refl, (refl, tt))) (entry_good made (begins made refl))
+        shared _ shared_leads NotEqual unique.0 unique.5

@@ -20,13 +20,13 @@ use Rattle.rv_isa.specs.declared.asm.Action.TheVariants.{Label, TailCall}
 use Rattle.rv_isa.specs.AsmCode.{Line, Lines}
 use Rattle.rv_isa.specs.ValueBounds.{AreValuesBelow, IsWrittenBelow, AreLinesBelow, HasValuesBelow, HaveValuesBelow}
 use Rattle.rv_isa.proofs.ValueBounds.{lines_joined}
-use Rattle.rv_lower.specs.Lines.{Texts, sets, acts}
+use Rattle.rv_lower.specs.Lines.{Texts, acts}
 use Rattle.rv_lower.specs.Lowered.{Goal, returns, joins}
 use Rattle.rv_lower.specs.Written.{texts_of}
 use Rattle.rv_lower.proofs.ValueBounds.{handed_below, from_to_below, IsGoalBelow, goal_below, form_below}
 use Rattle.rv_lower.proofs.WellFormedness.{HasRoom, room_more, most_temporaries}
 use Rattle.rv_cells.specs.declared.compare.Branching.{Branching}
-use Rattle.rv_cells.specs.CellLines.{dup_lines, drop_lines, token_ends}
+use Rattle.rv_cells.specs.CellLines.{dup_lines, drop_lines}
 use Rattle.rv_cells.specs.ComparisonBranch.{branch_of, branch_unless}
 use Rattle.rv_cells.specs.CountedLines.{Setting, ComputeLines, ways_of}
 use Rattle.rv_cells.specs.Layout.{Layout, header_of}
@@ -37,7 +37,7 @@ use Rattle.rv_cells.specs.TokenedLines.{header_stands, count_stands, LinesBehind
 use Rattle.rv_cells.specs.TokenedLowered.{IsTokenedForm}
 use Rattle.rv_cells.proofs.CallLines.{among_numbers}
 use Rattle.rv_cells.proofs.FormedOrders.{room_front}
-use Rattle.rv_cells.proofs.FormValues.{loads_below, dup_below, drop_below, construct_below, fill_below, count_below, ends_below, nodes_below}
+use Rattle.rv_cells.proofs.FormValues.{loads_below, dup_below, drop_below, construct_below, fill_below, token_unique_below, nodes_below}
 use Rattle.rv_cells.proofs.TokenFormedFunctions.{bare_at}
 use Rattle.rv_cells.proofs.UnnamedVariables.{HasUses, HaveUses, uses_marked}
 
@@ -227,13 +227,9 @@ module _ (setting : Setting) (marks : CellMarks) (result : Bool) (variables slot
   opening_below low x fields used y rest bound lines own more less below few numbered is lines_are later =
       subst Below (sym lines_are)
       (lines_joined most own more
-      (count_below most setting.base setting.holds low (low + 1) x fields used
-      (token_ends is.0 x (variables + y) (low + 1) (low + 2)) (sets 0 (variables + y) ∷ []) own (omega (arith, base_is))
-      (variable_less x less)
-      (fields_below variables most fields variables_le below)
-      (ends_below most is.0 x (variables + y) (low + 1) (low + 2) (variable_less x less) (slot_less y few)
-      (may_fill_less is.0 y rest bound is.1 numbered))
-      ((tt, slot_less y few), tt) is.2)
+      (token_unique_below most setting.base setting.holds low (low + 1) (low + 2) x fields used (variables + y) is.0 own
+      (omega (arith, base_is)) (variable_less x less) (slot_less y few) (may_fill_less is.0 y rest bound is.1 numbered)
+      (fields_below variables most fields variables_le below) is.2)
       later)
 
   mutual

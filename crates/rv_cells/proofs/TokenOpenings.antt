@@ -1,5 +1,5 @@
 -- Openings by the count of the cell that leave a token, as lines.
-use Rattle.std.proofs.Common.{◌≡◌, ◌≢◌, ◌<◌, ◌≤◌, ℕ, zero, suc, ◌+◌, ◌*◌, true, false, List, [], ◌∷◌, ◌++◌, length, Option, Some, None, refl, ◌∙◌, ap, subst, arith}
+use Rattle.std.proofs.Common.{◌≡◌, ◌≢◌, ◌<◌, ◌≤◌, ℕ, zero, suc, ◌+◌, ◌*◌, true, false, List, [], ◌∷◌, ◌++◌, length, Option, Some, None, refl, sym, ◌∙◌, subst, arith}
 use Rattle.std.specs.Prelude.{filter}
 use Rattle.kk_syntax.specs.Shapes.{is_among}
 use Rattle.kk_counted.specs.Heaps.{Heap, count_at, set_count, dup_all, drop_all}
@@ -12,13 +12,13 @@ use Rattle.rv_isa.specs.AsmMachine.{is_label}
 use Rattle.rv_isa.specs.Frames.{Frame, put, found}
 use Rattle.cell_heap.specs.Blocks.{Cells}
 use Rattle.cell_runtime.specs.World.{World, with_cells}
-use Rattle.rv_lower.specs.Lines.{sets, copies_to, acts}
+use Rattle.rv_lower.specs.Lines.{copies_to, acts}
 use Rattle.rv_lower.proofs.FormEffects.{put_same, put_other}
 use Rattle.rv_cells.specs.Layout.{words_in, header_of, first_field}
 use Rattle.rv_cells.specs.CountedCells.{AreFrom, Owner, in_hand, is_aside}
-use Rattle.rv_cells.specs.CellLines.{token_ends, TokenUniqueLines}
+use Rattle.rv_cells.specs.CellLines.{TokenUniqueLines}
 use Rattle.rv_cells.proofs.Runs.{turn_of, Runs, runs_none, runs_then}
-use Rattle.rv_cells.proofs.CellActions.{put_in, sets_runs, copy_runs}
+use Rattle.rv_cells.proofs.CellActions.{put_in, sets_runs, copy_runs, label_runs}
 use Rattle.rv_cells.proofs.Spots.{AreSmall, Spot, Known, Here, saved}
 use Rattle.rv_cells.proofs.LineCosts.{most_moves, row_cost}
 use Rattle.rv_cells.proofs.Values.{among_none, has_other, list_grown}
@@ -88,10 +88,10 @@ token_cost known fields used =
     + row_cost (Opens.others_of used fields) (most_moves + 14)
 
 module _ (known : Known) (rest : List Line) (fs : List (Frame Line)) (s : Spot) (x c : ℕ) (fields used : List ℕ)
-    (shared behind filled token : ℕ) (into : Option ℕ) (lines : List Line) (named : Named) (next : Heap)
+    (second behind filled token : ℕ) (into : Option ℕ) (lines : List Line) (named : Named) (next : Heap)
     (here : Here known s) (reads : IsReading known s x c fields named) (apart : AreApart fields)
     (low : token < known.base) (spare : is_among (bound_list fields s.bound) token ≡ false)
-    (uniques : TokenUniqueLines known.base known.holds shared behind filled x fields used token into lines) where
+    (uniques : TokenUniqueLines known.base known.holds second behind filled x fields used token into lines) where
   abbrev o : Opens.CountOpening known
   o = record {
     rest = rest;
@@ -101,8 +101,11 @@ module _ (known : Known) (rest : List Line) (fs : List (Frame Line)) (s : Spot) 
     c = c;
     fields = fields;
     used = used;
-    shared = shared;
+    token = token;
+    into = into;
+    second = second;
     behind = behind;
+    filled = filled;
     lines = lines;
     named = named;
     next = next;
@@ -110,24 +113,22 @@ module _ (known : Known) (rest : List Line) (fs : List (Frame Line)) (s : Spot) 
     reads = reads;
     apart = apart;
     uniques = uniques;
-    ends = token_ends into x token behind filled;
-    begins = sets 0 token ∷ [];
   }
 
   -- the lines of the second way, with its label; without it; and those before it
-  abbrev pub for_shared : List Line
-  for_shared = Opens.for_shared known o
+  abbrev pub for_second : List Line
+  for_second = Opens.for_second known o into
 
-  abbrev pub shared_lines : List Line
-  shared_lines = Opens.shared_lines known o
+  abbrev pub second_lines : List Line
+  second_lines = Opens.second_lines known o into
 
   abbrev pub head_lines : List Line
-  head_lines = Opens.head_lines known o
+  head_lines = Opens.head_of known o into
 
   abbrev ending : List Line
   ending = acts (Label behind) [] ∷ rest
 
-  pub whole_lines : lines ++ rest ≡ head_lines ++ (for_shared ++ ending)
+  pub whole_lines : lines ++ rest ≡ head_lines ++ (for_second ++ ending)
   whole_lines = Opens.whole_lines known o
 
   abbrev at : ℕ
@@ -145,34 +146,37 @@ module _ (known : Known) (rest : List Line) (fs : List (Frame Line)) (s : Spot) 
   abbrev fields_words : List ℕ
   fields_words = words_in known.layout s.address named.fields
 
-  -- the token of a cell of one reference, by the lines behind the copy
-  gains_by : (end after : List Line) (cost steps : ℕ) → token_ends into x token behind filled ≡ copies_to x token ∷ after
-      → count_at s.heap named.at ≡ 1
+  abbrev FindsSecond : Type 0
+  FindsSecond = found (λ line. is_label second line.action) s.frame.whole ≡ Some (for_second ++ ending)
+
+  abbrev FindsBehind : Type 0
+  FindsBehind = found (λ line. is_label behind line.action) s.frame.whole ≡ Some ending
+
+  -- the token of a cell of one reference, by what stands behind the copy
+  gains_by : (end : List Line) (cost steps : ℕ) → count_at s.heap named.at ≡ 1 → FindsSecond
       → drop_all (other_values used fields named.fields) (set_count named.at 0 s.heap) ≡ Some next
-      → cost ≤ (most_moves + 2) + (most_moves + 0)
-      → ((frame : Frame Line) (world : World) → frame.whole ≡ s.frame.whole
-      → Runs known.target cost steps (turn_of (after ++ (for_shared ++ ending)) frame fs world) (turn_of end frame fs world))
+      → cost ≤ most_moves
+      → ((frame : Frame Line) (world : World)
+      → Runs known.target cost steps (turn_of (Opens.behind_alone known o into) frame fs world) (turn_of end frame fs world))
       → Leaves end (λ t. HasCell s t token at fields_words (header_of known.layout c))
-  gains_by end after cost steps ends_are once given cheap leaving =
+  gains_by end cost steps once finds given cheap leaving =
       let moves = most_moves in
       let target = known.target in
-      let emptied = Opens.empties known o once given in
+      let emptied = Opens.empties known o once finds given in
       let frame = emptied.0 in
       let owners = emptied.1 in
       let left = emptied.3 in
       let comes = left.comes in
       let world = with_cells s.world emptied.2 in
       let last = put_in token at frame in
-      let copied = copy_runs target (after ++ (for_shared ++ ending)) frame fs world x token at
+      let after = Opens.behind_alone known o into in
+      let copied = copy_runs target after frame fs world x token at
       (Opens.x_behind known o frame owners emptied.2 comes.here) in
       let t0 = turn_of (lines ++ rest) s.frame fs s.world in
-      let t1 = turn_of (copies_to x token ∷ (after ++ (for_shared ++ ending))) frame fs world in
-      let t2 = turn_of (after ++ (for_shared ++ ending)) last fs world in
+      let t1 = turn_of (copies_to x token ∷ after) frame fs world in
+      let t2 = turn_of after last fs world in
       let t3 = turn_of end last fs world in
-      let came : Runs target comes.cost comes.steps t0 t1
-      = subst (λ ls. Runs target comes.cost comes.steps t0 (turn_of (ls ++ (for_shared ++ ending)) frame fs world)) ends_are
-      comes.runs in
-      let back = runs_then target (moves + 2) cost 1 steps t1 t2 t3 copied (leaving last world comes.whole) in
+      let back = runs_then target (moves + 2) cost 1 steps t1 t2 t3 copied (leaving last world) in
       let within = comes.within in (
         last,
         owners,
@@ -181,7 +185,7 @@ module _ (known : Known) (rest : List Line) (fs : List (Frame Line)) (s : Spot) 
           cost = comes.cost + ((moves + 2) + cost);
           steps = comes.steps + (1 + steps);
           within = omega arith;
-          runs = runs_then target comes.cost ((moves + 2) + cost) comes.steps (1 + steps) t0 t1 t3 came back;
+          runs = runs_then target comes.cost ((moves + 2) + cost) comes.steps (1 + steps) t0 t1 t3 comes.runs back;
           here = record { follows = comes.here.follows; values = has_other comes.here.values token at spare };
           spared = λ z below apart none. put_other token z at frame.cells (among_none token [] z apart).0
               ∙ comes.spared z below none;
@@ -205,13 +209,12 @@ module _ (known : Known) (rest : List Line) (fs : List (Frame Line)) (s : Spot) 
   -- the null token, where the cell has other references
   blanks : (n : ℕ) → count_at s.heap named.at ≡ suc (suc n)
       → dup_all (used_values used fields named.fields) (set_count named.at (suc n) s.heap) ≡ Some next
-      → AreSmall (length (filter (is_among used) fields)) s.heap
-      → found (λ line. is_label shared line.action) s.frame.whole ≡ Some (for_shared ++ ending)
-      → Leaves rest (λ t. IsNull s t token)
-  blanks n several given small finds =
+      → AreSmall (length (filter (is_among used) fields)) s.heap → FindsSecond → FindsBehind → Leaves rest (λ t. IsNull s t token)
+  blanks n several given small finds finds_behind =
       let tests = Opens.tests known o in
-      let done = Opens.lessens known o n several given small finds (most_moves + 2) 1 (put token (Some 0) tests.cells)
-      (sets_runs known.target ((Opens.loads known o ++ Opens.lowers known o) ++ ending) tests fs s.world 0 token)
+      let done = Opens.lessens known o n several given small finds finds_behind (most_moves + 2) 1 (put token (Some 0) tests.cells)
+      (sets_runs known.target ((Opens.loads known o ++ Opens.lowers known o) ++ Opens.behind_shared known o into) tests fs s.world
+      0 token)
       (has_other (Opens.here_tests known o).values token 0 (list_grown fields s.bound token spare)) in
       let comes = done.3 in
       let cheap = comes.within in (
@@ -242,28 +245,25 @@ module _ (known : Known) (rest : List Line) (fs : List (Frame Line)) (s : Spot) 
 
   pub opens_to_token : unique_heap (count_at s.heap named.at) named.at (used_values used fields named.fields)
       (other_values used fields named.fields) s.heap ≡ Some next
-      → AreSmall (length (filter (is_among used) fields)) s.heap
-      → found (λ line. is_label shared line.action) s.frame.whole ≡ Some (for_shared ++ ending)
-      → found (λ line. is_label behind line.action) s.frame.whole ≡ Some ending
-      → Leaves (comes_to (count_at s.heap named.at) into token filled rest (for_shared ++ ending))
+      → AreSmall (length (filter (is_among used) fields)) s.heap → FindsSecond → FindsBehind
+      → Leaves (comes_to (count_at s.heap named.at) into token filled rest (for_second ++ ending))
       (λ t. TokenIs (count_at s.heap named.at) s t token at fields_words (header_of known.layout c))
-  opens_to_token given small finds_shared finds_behind = by (count_at s.heap named.at) into refl refl given
+  opens_to_token given small finds finds_behind = by (count_at s.heap named.at) into refl refl given
     where
       by : (count : ℕ) (going : Option ℕ) → count_at s.heap named.at ≡ count → into ≡ going
           → unique_heap count named.at (used_values used fields named.fields) (other_values used fields named.fields) s.heap
           ≡ Some next
-          → Leaves (comes_to count going token filled rest (for_shared ++ ending)) (λ t. TokenIs count s t token at fields_words
+          → Leaves (comes_to count going token filled rest (for_second ++ ending)) (λ t. TokenIs count s t token at fields_words
           (header_of known.layout c))
       by zero going counts same given = cc
       by (suc zero) None counts same given =
-          gains_by rest (acts (Jump behind) [] ∷ []) ((most_moves + 2) + (most_moves + 0)) (1 + 1)
-          (ap (λ one. token_ends one x token behind filled) same) counts given (omega arith)
-          (λ frame world whole. Opens.leaves known o frame world
-          (ap (λ w. found (λ line. is_label behind line.action) w) whole ∙ finds_behind))
+          gains_by rest (most_moves + 0) 1 counts finds given (omega arith)
+          (λ frame world. subst (λ one. Runs known.target (most_moves + 0) 1
+          (turn_of (Opens.behind_alone known o one) frame fs world) (turn_of rest frame fs world)) (sym same)
+          (label_runs known.target rest frame fs world behind))
       by (suc zero) (Some made) counts same given =
-          gains_by (comes_to 1 (Some made) token filled rest (for_shared ++ ending)) (copies_to token made ∷ acts (Jump filled) [] ∷
-          []) 0 0
-          (ap (λ one. token_ends one x token behind filled) same) counts given (omega arith)
-          (λ frame world whole. runs_none known.target
-          (turn_of (comes_to 1 (Some made) token filled rest (for_shared ++ ending)) frame fs world))
-      by (suc (suc n)) going counts same given = blanks n counts given small finds_shared
+          gains_by (comes_to 1 (Some made) token filled rest (for_second ++ ending)) 0 0 counts finds given (omega arith)
+          (λ frame world. subst (λ one. Runs known.target 0 0 (turn_of (Opens.behind_alone known o one) frame fs world)
+          (turn_of (comes_to 1 (Some made) token filled rest (Opens.for_second known o one ++ ending)) frame fs world)) (sym same)
+          (runs_none known.target (turn_of (Opens.behind_alone known o (Some made)) frame fs world)))
+      by (suc (suc n)) going counts same given = blanks n counts given small finds finds_behind

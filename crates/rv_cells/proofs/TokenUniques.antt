@@ -32,12 +32,15 @@ use Rattle.kk_counted.proofs.OwnedOpenings.{opens_by_count}
 use Rattle.kk_counted.proofs.SlotMarks.{slot_here, slot_there}
 use Rattle.kk_counted.proofs.Variables.{fields_part}
 use Rattle.rv_isa.specs.declared.asm.Action.TheVariants.{Label, Branch}
+use Rattle.rv_isa.specs.declared.asm.Condition.{Condition}
 use Rattle.rv_isa.specs.declared.asm.Condition.TheVariants.{NotEqual}
+use Rattle.rv_isa.specs.declared.asm.Operation.TheVariants as Op
+use Rattle.rv_isa.specs.declared.asm.ImmediateOperation.TheVariants.{Addi}
 use Rattle.rv_isa.specs.AsmCode.{Line}
 use Rattle.rv_isa.specs.Frames.{Frame}
 use Rattle.cell_heap.specs.Blocks.{Cells}
-use Rattle.rv_lower.specs.Lines.{sets, copies_to, acts}
-use Rattle.rv_cells.specs.CellLines.{drops_lines, token_ends, TokenUniqueLines}
+use Rattle.rv_lower.specs.Lines.{computes, sets, acts}
+use Rattle.rv_cells.specs.CellLines.{alone_lines, shared_lines, first_way, goes_second, leaving_lines, TokenUniqueLines}
 use Rattle.rv_cells.specs.Layout.{words_in, header_of, first_field}
 use Rattle.rv_cells.specs.CountedCells.{AreFrom, Owner, cell_of, in_hand, is_aside}
 use Rattle.rv_cells.specs.TokenedLines.{CodeLines, OpeningLines, HasSlots, IsOf, Keeps, MayFill}
@@ -46,13 +49,13 @@ use Rattle.rv_cells.proofs.BoundVariables.{AreWithin, marks_are}
 use Rattle.rv_cells.proofs.UsedCells.{named_cell}
 use Rattle.rv_cells.proofs.Rows.{then_some, IsReading}
 use Rattle.rv_cells.proofs.CountOpenings.{others_of}
-use Rattle.rv_cells.proofs.FormPlaces.{Tree, tree, part, no_part, parts_of, IsPart, tree_in, entry_part, Next, stands_behind, entry_lines, entry_passed, lines_before_entry, behind_entry, entry_is_part, fill_there}
+use Rattle.rv_cells.proofs.FormPlaces.{Tree, tree, part, no_part, parts_of, IsPart, tree_in, entry_part, Next, stands_behind, entry_lines, lines_before_entry, behind_entry, entry_is_part, fill_there}
 use Rattle.rv_cells.proofs.LineCosts.{most_moves, row_cost}
 use Rattle.rv_cells.proofs.Openings.{bound_older, opened_spot}
 use Rattle.rv_cells.proofs.Runs.{turn_of, Runs}
 use Rattle.rv_cells.proofs.Spots.{Spot, Here, saved}
 use Rattle.rv_cells.proofs.Values.{among_by}
-use Rattle.rv_cells.proofs.TokenOpenings.{HasCell, IsNull, TokenIs, LeadsTo, comes_to, token_cost, for_shared, shared_lines, head_lines, whole_lines, opens_to_token}
+use Rattle.rv_cells.proofs.TokenOpenings.{HasCell, IsNull, TokenIs, LeadsTo, comes_to, token_cost, for_second, second_lines, head_lines, whole_lines, opens_to_token}
 use Rattle.rv_cells.proofs.TokenCells.{token_aside, cells_stay, cell_comes}
 use Rattle.rv_cells.proofs.TokenFields.{recounted_words, eased_cells, cell_is, named_fields}
 use Rattle.rv_cells.proofs.TokenFrames.{none_behind, all_wait_at}
@@ -683,37 +686,39 @@ module _ (program : Lowering) (code : Tokened) (x c : ℕ) (fields used : List �
       let first = head_lines known after fs s x c fields used p.low (p.low + 1) (p.low + 2) (v + y) a.into a.own o.named o.next here
       reads
       a.fields_apart token_low spare a.uniques in
-      let shared = for_shared known after fs s x c fields used p.low (p.low + 1) (p.low + 2) (v + y) a.into a.own o.named o.next
+      let second = for_second known after fs s x c fields used p.low (p.low + 1) (p.low + 2) (v + y) a.into a.own o.named o.next
       here reads
       a.fields_apart token_low spare a.uniques in
-      let shared_rest = shared_lines known after fs s x c fields used p.low (p.low + 1) (p.low + 2) (v + y) a.into a.own o.named
+      let second_rest = second_lines known after fs s x c fields used p.low (p.low + 1) (p.low + 2) (v + y) a.into a.own o.named
       o.next here reads
       a.fields_apart token_low spare a.uniques in
       let behind = acts (Label (p.low + 1)) [] ∷ after in
-      let whole : a.own ++ after_lines ≡ first ++ (shared ++ behind)
+      let whole : a.own ++ after_lines ≡ first ++ (second ++ behind)
       = whole_lines known after fs s x c fields used p.low (p.low + 1) (p.low + 2) (v + y) a.into a.own o.named o.next here reads
       a.fields_apart token_low spare a.uniques in
-      let is : left ≡ first ++ (shared ++ behind)
+      let is : left ≡ first ++ (second ++ behind)
       = p.left_is ∙ ap (λ own. own ++ p.after) a.behind.parts ∙ append_assoc a.own a.more p.after ∙ whole in
-      let shared_at : s.frame.whole ≡ (p.before ++ first) ++ (shared ++ behind)
-      = p.place ∙ ap (λ ls. p.before ++ ls) is ∙ sym (append_assoc p.before first (shared ++ behind)) in
-      let behind_at : s.frame.whole ≡ ((p.before ++ first) ++ shared) ++ behind
-      = shared_at ∙ sym (append_assoc (p.before ++ first) shared behind) in
+      let second_at : s.frame.whole ≡ (p.before ++ first) ++ (second ++ behind)
+      = p.place ∙ ap (λ ls. p.before ++ ls) is ∙ sym (append_assoc p.before first (second ++ behind)) in
+      let behind_at : s.frame.whole ≡ ((p.before ++ first) ++ second) ++ behind
+      = second_at ∙ sym (append_assoc (p.before ++ first) second behind) in
       let opened = opens_to_token known after fs s x c fields used p.low (p.low + 1) (p.low + 2) (v + y) a.into a.own o.named o.next
       here reads
       a.fields_apart token_low spare a.uniques o.next_is (λ name. let small = counts name in omega arith)
-      (finds p.low s.frame.whole (p.before ++ first) (shared_rest ++ behind) at.has.formed shared_at)
-      (finds (p.low + 1) s.frame.whole ((p.before ++ first) ++ shared) after at.has.formed behind_at) in
+      (finds p.low s.frame.whole (p.before ++ first) (second_rest ++ behind) at.has.formed second_at)
+      (finds (p.low + 1) s.frame.whole ((p.before ++ first) ++ second) after at.has.formed behind_at) in
       let base = at.shape.variables + at.shape.slots in
-      let drops = drops_lines at.shape.holds (others_of used fields) in
-      let before = λ (ls : List Line). a.uniques.0 ∷ sets 1 (base + 1) ∷ acts (Branch NotEqual p.low) (base ∷ (base + 1) ∷ []) ∷ ls
-      in
-      let entered : (made : ℕ) → a.into ≡ Some made → a.own ++ after_lines ≡ before_entry ++ (entry made ++ (shared ++ behind))
+      let alone = alone_lines at.shape.holds x fields used (v + y) a.uniques.1 in
+      let lowered = a.uniques.2 ∷ computes (Op.Immediate Addi a.uniques.3) (base ∷ []) base ∷ a.uniques.4 ∷ [] in
+      let shared = shared_lines at.shape.holds fields used (v + y) a.uniques.1 lowered in
+      let before = λ (condition : Condition) (ls : List Line). a.uniques.0 ∷ sets 1 (base + 1)
+      ∷ acts (Branch condition p.low) (base ∷ (base + 1) ∷ []) ∷ ls in
+      let entered : (made : ℕ) → a.into ≡ Some made → a.own ++ after_lines ≡ before_entry ++ (entry made ++ (second ++ behind))
       = λ made made_is. whole
-      ∙ ap (λ into. before ((a.uniques.1 ++ (drops ++ token_ends into x (v + y) (p.low + 1) (p.low + 2))) ++ (shared ++ behind)))
-      made_is
-      ∙ ap before (entry_passed a.uniques.1 drops (entry made) (shared ++ behind) (copies_to x (v + y))) in
-      by (shared ++ behind) entered opened.0 opened.1 opened.2 (count_at s.heap o.named.at) a.into opened.3 refl refl o.next_is
+      ∙ ap (λ into. before (goes_second into) ((first_way into alone shared
+      ++ leaving_lines into (v + y) (p.low + 1) (p.low + 2)) ++ (second ++ behind))) made_is
+      ∙ ap (before NotEqual) (append_assoc alone (entry made) (second ++ behind)) in
+      by (second ++ behind) entered opened.0 opened.1 opened.2 (count_at s.heap o.named.at) a.into opened.3 refl refl o.next_is
       opened.4
     where
       few_fields : (holds : ℕ → Bool) (k : ℕ) (xs : List ℕ) → HaveMarks holds xs (field_marks program.marks k) → length xs ≤ greatest_of Fields

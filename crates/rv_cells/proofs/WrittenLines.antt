@@ -19,6 +19,7 @@ use Rattle.std.proofs.Common.{
   get_or,
   Option,
   Some,
+  None,
   refl,
   sym,
   ap,
@@ -29,7 +30,7 @@ use Rattle.std.proofs.Common.{
   append_assoc,
   false,
 }
-use Rattle.std.specs.Prelude.{filter, map, drop, slice_range, option_to_list}
+use Rattle.std.specs.Prelude.{filter, map, drop, slice_range, option_to_list, is_some}
 use Rattle.std.proofs.lemmas.List.{length-take-le, take_more, take_all, length-drop, drop-map}
 use Rattle.kk_syntax.specs.Shapes.{is_among}
 use Rattle.kk_core.specs.Decisions.{NodeTree, node_tree, tests}
@@ -48,8 +49,9 @@ use Rattle.rv_lower.specs.Written.{lines_written, Wrote, WroteLines, TookLabel}
 use Rattle.rv_lower.proofs.WrittenLines.{wrote_then}
 use Rattle.rv_lower.proofs.CodeGrowth.{grows_of, grows_took, grows_then, grows_more}
 use Rattle.rv_cells.specs.Layout.{Layout, first_field}
-use Rattle.rv_cells.specs.CellLines.{Loads, Stores, AllLoads, AllStores, StoresIf, SomeStores, is_kept, Walks, walked, spare, dups_lines, drops_lines, ConstructLines}
-use Rattle.rv_cells.specs.CellLines.{SetIf, SomeWords, FillLines, hold_lines, unhold_lines, token_ends, TokenUniqueLines}
+use Rattle.rv_cells.specs.CellLines.{Loads, Stores, AllLoads, AllStores, StoresIf, SomeStores, is_kept, Walks, walked, spare, dups_lines, ConstructLines}
+use Rattle.rv_cells.specs.CellLines.{SetIf, SomeWords, FillLines, hold_lines, unhold_lines, TokenUniqueLines}
+use Rattle.rv_cells.specs.CellLines.{alone_lines, shared_lines, first_way, second_way, goes_second, leaving_lines, both_ways}
 use Rattle.rv_cells.specs.CountedLines.{
   is_plain,
   answer_word,
@@ -67,7 +69,7 @@ use Rattle.rv_cells.specs.CountedLines.{
   NodesLines,
 }
 use Rattle.rv_cells.specs.TokenedWritten.{take_line, request_lines, StoreLines, WroteFill}
-use Rattle.rv_cells.specs.Written.{TestsCount, LowersCellCount, LoadsTag, WroteOpening}
+use Rattle.rv_cells.specs.Written.{TestsCount, WayLines, LowersCellCount, LoadsTag, WroteOpening}
 
 pub three_same : {a b c d e f : Line} → a ≡ b → c ≡ d → e ≡ f → a ∷ c ∷ e ∷ [] ≡ b ∷ d ∷ f ∷ []
 three_same {a} {b} {c} {d} {e} {f} first second third = cc (first, second, third)
@@ -202,82 +204,139 @@ walk_more {n} {index} {cell} {line} {a} {b} {c} temporary value xs less is from 
 
 -- ---- an opening by the count of a cell
 
+-- the way of a cell that has other references
+pub shared_written : {holds : ℕ → Bool} {x : ℕ} {fields used : List ℕ} {token : ℕ} (loads : List Line) {a b c d e : Lowering}
+    → Wrote (sets 0 token ∷ []) a b → Wrote loads b c → WroteLines (LowersCellCount c.base x) c d
+    → Wrote (dups_lines holds (filter (is_among used) fields)) d e
+    → WroteLines (WayLines false a.base holds x fields used token loads) a e
+shared_written {holds} {x} {fields} {used} {token} loads {a} {b} {c} {d} {e} began all less dups = record {
+  lines = shared_lines holds fields used token loads less.lines;
+  wrote = wrote_then began (wrote_then all (wrote_then less.wrote dups));
+  are = (less.lines, subst (λ n. LowersCellCount n x less.lines) (all.base ∙ began.base) less.are, refl);
+}
+
+-- each way, by whether it is that of a cell that has no other reference
+pub alone_written : {holds : ℕ → Bool} {x : ℕ} {fields used : List ℕ} {token : ℕ} (loads : List Line) {a b : Lowering} (alone : Bool)
+    → alone ≡ true → Wrote (alone_lines holds x fields used token loads) a b
+    → WroteLines (WayLines alone a.base holds x fields used token loads) a b
+alone_written {holds} {x} {fields} {used} {token} loads {a} {b} alone is wrote =
+    subst (λ (way : Bool). WroteLines (WayLines way a.base holds x fields used token loads) a b) (sym is)
+    (record { lines = alone_lines holds x fields used token loads; wrote = wrote; are = refl })
+
+pub other_written : {holds : ℕ → Bool} {x : ℕ} {fields used : List ℕ} {token : ℕ} (loads : List Line) {a b : Lowering} (alone : Bool)
+    → alone ≡ false → WroteLines (WayLines false a.base holds x fields used token loads) a b
+    → WroteLines (WayLines alone a.base holds x fields used token loads) a b
+other_written {holds} {x} {fields} {used} {token} loads {a} {b} alone is wrote =
+    subst (λ (way : Bool). WroteLines (WayLines way a.base holds x fields used token loads) a b) (sym is) wrote
+
+-- both ways, by which of them stands first
+record BothWays (into : Option ℕ) (base : ℕ) (holds : ℕ → Bool) (x : ℕ) (fields used : List ℕ) (token : ℕ)
+    (loads first second : List Line) : Type 0 where
+  pub lowers : List Line
+  pub less : LowersCellCount base x lowers
+  pub first_is : first
+      ≡ first_way into (alone_lines holds x fields used token loads) (shared_lines holds fields used token loads lowers)
+  pub second_is : second
+      ≡ second_way into (alone_lines holds x fields used token loads) (shared_lines holds fields used token loads lowers)
+
+ways_are : (into : Option ℕ) (base : ℕ) (holds : ℕ → Bool) (x : ℕ) (fields used : List ℕ) (token : ℕ)
+    (loads first second : List Line) → WayLines (is_some into) base holds x fields used token loads first
+    → WayLines (not (is_some into)) base holds x fields used token loads second
+    → BothWays into base holds x fields used token loads first second
+ways_are None base holds x fields used token loads first second first_is second_is = record {
+  lowers = first_is.0;
+  less = first_is.1;
+  first_is = first_is.2;
+  second_is = second_is;
+}
+ways_are (Some made) base holds x fields used token loads first second first_is second_is = record {
+  lowers = second_is.0;
+  less = second_is.1;
+  first_is = first_is;
+  second_is = second_is.2;
+}
+
 module _ {holds : ℕ → Bool} {x : ℕ} {fields used : List ℕ} {token : ℕ} {into : Option ℕ} where
-  pub opening_written : {shared behind : ℕ} {loads : List Line} {a b c d e f g h i j k l m : Lowering} → TookLabel shared a b
-      → TookLabel behind b c
-      → AllLoads x first_field fields loads → WroteLines (TestsCount c.base shared x) c d → Wrote loads d e
-      → Wrote (drops_lines holds (filter (λ y. not (is_among used y)) fields)) e f → Wrote (token_ends into x token behind
-      (behind + 1)) f g
-      → Wrote (acts (Label shared) [] ∷ []) g h → Wrote (sets 0 token ∷ []) h i → Wrote loads i j
-      → WroteLines (LowersCellCount j.base x) j k
-      → Wrote (dups_lines holds (filter (is_among used) fields)) k l → Wrote (acts (Label behind) [] ∷ []) l m
-      → WroteOpening holds x fields used token into a m
-  opening_written {shared} {behind} {loads} {a} {b} {c} {d} {e} {f} {g} {h} {i} {j} {k} {l} {m} first second all test one
-      drops end label began again less dups last = record {
+  pub opening_written : {second behind : ℕ} (loads : List Line) {a b c d e f g h i : Lowering} → TookLabel second a b
+      → TookLabel behind b c → AllLoads x first_field fields loads
+      → WroteLines (TestsCount c.base (goes_second into) second x) c d
+      → WroteLines (WayLines (is_some into) d.base holds x fields used token loads) d e
+      → Wrote (leaving_lines into token behind (behind + 1)) e f → Wrote (acts (Label second) [] ∷ []) f g
+      → WroteLines (WayLines (not (is_some into)) g.base holds x fields used token loads) g h
+      → Wrote (acts (Label behind) [] ∷ []) h i
+      → WroteOpening holds x fields used token into a i
+  opening_written {second} {behind} loads {a} {b} {c} {d} {e} {f} {g} {h} {i} one two all test first leaves label other last =
+      record {
         lines = lines;
-        grows = grows_more (omega arith) (grows_then (grows_took first) (grows_then (grows_took second) (grows_of whole)));
-        label = whole.label ∙ second.next ∙ ap (λ n. n + 1) first.next ∙ two a.next_label;
+        grows = grows_more (omega arith) (grows_then (grows_took one) (grows_then (grows_took two) (grows_of whole)));
+        label = whole.label ∙ two.next ∙ ap (λ n. n + 1) one.next ∙ next_two a.next_label;
         are = subst (λ n. TokenUniqueLines a.base holds a.next_label (a.next_label + 1) n x fields used token into lines)
-            (ap (λ n. n + 1) (second.is ∙ first.next) ∙ two a.next_label)
+            (ap (λ n. n + 1) (two.is ∙ one.next) ∙ next_two a.next_label)
             (subst (λ n. TokenUniqueLines a.base holds a.next_label n (behind + 1) x fields used token into lines)
-            (second.is ∙ first.next)
-            (subst (λ n. TokenUniqueLines a.base holds n behind (behind + 1) x fields used token into lines) first.is (
+            (two.is ∙ one.next)
+            (subst (λ n. TokenUniqueLines a.base holds n behind (behind + 1) x fields used token into lines) one.is (
               test_own.0,
               loads,
-              less_own.0,
-              less_own.1,
-              less_own.2,
+              ways.less.0,
+              ways.less.1,
+              ways.less.2,
               test_own.1,
               all,
-              less_own.3,
-              less_own.4,
-              less_own.5,
-              ap (λ (ls : List Line). ls ++ ((loads ++ (dropped ++ token_ends into x token behind (behind + 1))) ++
-                  ((acts (Label shared) [] ∷ ((sets 0 token ∷ []) ++ (loads ++ (less.lines ++ dupped)))) ++ (acts (Label behind) []
-                  ∷ []))))
+              ways.less.3,
+              ways.less.4,
+              ways.less.5,
+              ap (λ (ls : List Line). ls ++ ((first.lines ++ leaving) ++ ((acts (Label second) [] ∷ other.lines) ++ at_end)))
                   test_own.2
-                  ∙ ap (λ (ls : List Line). tested ++ ((loads ++ (dropped ++ token_ends into x token behind (behind + 1))) ++
-                  ((acts (Label shared) [] ∷ ((sets 0 token ∷ []) ++ (loads ++ (ls ++ dupped)))) ++ (acts (Label behind) [] ∷ []))))
-                  less_own.6,
+                  ∙ ap (λ (ls : List Line). tested ++ ((ls ++ leaving) ++ ((acts (Label second) [] ∷ other.lines) ++ at_end)))
+                  ways.first_is
+                  ∙ ap (λ (ls : List Line). tested
+                  ++ ((first_way into alone (shared ways.lowers) ++ leaving) ++ ((acts (Label second) [] ∷ ls) ++ at_end)))
+                  ways.second_is
+                  ∙ ap (λ (ls : List Line). tested ++ both_ways into second behind (behind + 1) token alone (shared ls)) ways.less.6,
             )));
       }
     where
-      two : (n : ℕ) → n + 1 + 1 ≡ n + 2
-      two n = omega arith
+      next_two : (n : ℕ) → n + 1 + 1 ≡ n + 2
+      next_two n = omega arith
 
       at_c : c.base ≡ a.base
-      at_c = second.base ∙ first.base
+      at_c = two.base ∙ one.base
 
-      at_e : e.base ≡ a.base
-      at_e = one.base ∙ test.wrote.base ∙ at_c
+      at_d : d.base ≡ a.base
+      at_d = test.wrote.base ∙ at_c
 
-      at_j : j.base ≡ a.base
-      at_j = again.base ∙ began.base ∙ label.base ∙ end.base ∙ drops.base ∙ at_e
+      at_g : g.base ≡ a.base
+      at_g = label.base ∙ leaves.base ∙ first.wrote.base ∙ at_d
 
-      dropped : List Line
-      dropped = drops_lines holds (filter (λ y. not (is_among used y)) fields)
+      alone : List Line
+      alone = alone_lines holds x fields used token loads
 
-      dupped : List Line
-      dupped = dups_lines holds (filter (is_among used) fields)
+      shared : List Line → List Line
+      shared lowers = shared_lines holds fields used token loads lowers
 
-      test_own : TestsCount a.base shared x test.lines
-      test_own = subst (λ n. TestsCount n shared x test.lines) at_c test.are
+      leaving : List Line
+      leaving = leaving_lines into token behind (behind + 1)
 
-      less_own : LowersCellCount a.base x less.lines
-      less_own = subst (λ n. LowersCellCount n x less.lines) at_j less.are
+      at_end : List Line
+      at_end = acts (Label behind) [] ∷ []
+
+      test_own : TestsCount a.base (goes_second into) second x test.lines
+      test_own = subst (λ n. TestsCount n (goes_second into) second x test.lines) at_c test.are
+
+      ways : BothWays into a.base holds x fields used token loads first.lines other.lines
+      ways = ways_are into a.base holds x fields used token loads first.lines other.lines
+          (subst (λ n. WayLines (is_some into) n holds x fields used token loads first.lines) at_d first.are)
+          (subst (λ n. WayLines (not (is_some into)) n holds x fields used token loads other.lines) at_g other.are)
 
       tested : List Line
-      tested = test_own.0 ∷ sets 1 (a.base + 1) ∷ acts (Branch NotEqual shared) (a.base ∷ (a.base + 1) ∷ []) ∷ []
+      tested = test_own.0 ∷ sets 1 (a.base + 1) ∷ acts (Branch (goes_second into) second) (a.base ∷ (a.base + 1) ∷ []) ∷ []
 
       lines : List Line
-      lines = test.lines ++ ((loads ++ (dropped ++ token_ends into x token behind (behind + 1))) ++
-          ((acts (Label shared) [] ∷ ((sets 0 token ∷ []) ++ (loads ++ (less.lines ++ dupped)))) ++ (acts (Label behind) [] ∷ [])))
+      lines = test.lines ++ ((first.lines ++ leaving) ++ ((acts (Label second) [] ∷ other.lines) ++ at_end))
 
-      whole : Wrote lines c m
-      whole =
-          wrote_then test.wrote
-          (wrote_then (wrote_then one (wrote_then drops end))
-          (wrote_then (wrote_then label (wrote_then began (wrote_then again (wrote_then less.wrote dups)))) last))
+      whole : Wrote lines c i
+      whole = wrote_then test.wrote
+          (wrote_then (wrote_then first.wrote leaves) (wrote_then (wrote_then label other.wrote) last))
 
 -- ---- constructions
 

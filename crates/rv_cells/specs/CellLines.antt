@@ -3,6 +3,7 @@
 use Rattle.std.specs.Prelude.{◌≡◌, ℕ, suc, ◌+◌, ◌*◌, ◌-◌, ◌^◌, Bool, true, false, List, [], ◌∷◌, ◌++◌, filter, Option, Some, None, not, nat_eq, if◌then◌else◌}
 use Rattle.kk_syntax.specs.Shapes.{is_among}
 use Rattle.rv_isa.specs.declared.asm.Action.TheVariants.{Compute, Label, Jump, Branch, Routine as Calls, Hold, Unhold}
+use Rattle.rv_isa.specs.declared.asm.Condition.{Condition}
 use Rattle.rv_isa.specs.declared.asm.Condition.TheVariants.{Equal, NotEqual}
 use Rattle.rv_isa.specs.declared.asm.Operation.TheVariants as Op
 use Rattle.rv_isa.specs.declared.asm.ImmediateOperation.TheVariants.{Addi}
@@ -120,30 +121,54 @@ FillLines base x token others filled header arguments kept head count lines =
 abbrev pub ReadLines : ℕ → List ℕ → List Line → Type 0
 ReadLines x fields lines = AllLoads x first_field fields lines
 
--- An opening. Behind the test of the count the fields are loaded on each way. Where the count is 1 the fields that are not in use
--- are dropped, and the lines `ends` are for the cell, which lead away. Else, from label `shared` on, the lines `begins` are first,
--- the count is lowered, and the fields in use get a reference more.
-abbrev pub CountLines : ℕ → (ℕ → Bool) → ℕ → ℕ → ℕ → List ℕ → List ℕ → List Line → List Line → List Line → Type 0
-CountLines base holds shared behind x fields used ends begins lines =
+-- The way of a cell that has no other reference: the fields are loaded, those that are not in use are dropped, and the cell becomes
+-- the token of a value.
+abbrev pub alone_lines : (ℕ → Bool) → ℕ → List ℕ → List ℕ → ℕ → List Line → List Line
+alone_lines holds x fields used token loads =
+    loads ++ (drops_lines holds (filter (λ y. not (is_among used y)) fields) ++ (copies_to x token ∷ []))
+
+-- The way of a cell that has other references: the token is null, the fields are loaded, the count is lowered, and the fields in use
+-- get a reference more.
+abbrev pub shared_lines : (ℕ → Bool) → List ℕ → List ℕ → ℕ → List Line → List Line → List Line
+shared_lines holds fields used token loads lowers =
+    sets 0 token ∷ (loads ++ (lowers ++ dups_lines holds (filter (is_among used) fields)))
+
+-- The way of a shared cell stands first. So the other way, which is the common one, comes behind the opening without a jump. But where
+-- a construction that fills this token's cell stands behind the opening, whose variable is given, the other way stands first: it leaves
+-- the opening by a jump in any case.
+abbrev pub first_way : Option ℕ → List Line → List Line → List Line
+first_way None alone shared = shared
+first_way (Some into) alone shared = alone
+
+abbrev pub second_way : Option ℕ → List Line → List Line → List Line
+second_way None alone shared = alone
+second_way (Some into) alone shared = shared
+
+-- The branch to the second way compares the count with 1.
+abbrev pub goes_second : Option ℕ → Condition
+goes_second None = Equal
+goes_second (Some into) = NotEqual
+
+-- The first way leads behind the opening, or behind the test of that construction, at its label `filled`.
+abbrev pub leaving_lines : Option ℕ → ℕ → ℕ → ℕ → List Line
+leaving_lines None token behind filled = acts (Jump behind) [] ∷ []
+leaving_lines (Some into) token behind filled = copies_to token into ∷ acts (Jump filled) [] ∷ []
+
+abbrev pub both_ways : Option ℕ → ℕ → ℕ → ℕ → ℕ → List Line → List Line → List Line
+both_ways into second behind filled token alone shared =
+    (first_way into alone shared ++ leaving_lines into token behind filled)
+    ++ ((acts (Label second) [] ∷ second_way into alone shared) ++ (acts (Label behind) [] ∷ []))
+
+-- An opening by the count of a cell: behind its test the fields are loaded on each way. A value is the cell's address then, as its
+-- token; it is 0 where the cell has other references. The second way stands behind the label `second`.
+abbrev pub TokenUniqueLines : ℕ → (ℕ → Bool) → ℕ → ℕ → ℕ → ℕ → List ℕ → List ℕ → ℕ → Option ℕ → List Line → Type 0
+TokenUniqueLines base holds second behind filled x fields used token into lines =
     (test : Line) × (loads : List Line) × (count : Line) × (less : Immediate) × (store : Line)
     × Loads x 0 base test × AllLoads x first_field fields loads × Loads x 0 base count × (less.word ≡ 2 ^ 32 - 1)
     × Stores x 0 base store
-    × (lines ≡ test ∷ sets 1 (base + 1) ∷ acts (Branch NotEqual shared) (base ∷ (base + 1) ∷ []) ∷
-    ((loads ++ (drops_lines holds (filter (λ y. not (is_among used y)) fields) ++ ends))
-    ++ ((acts (Label shared) [] ∷ (begins ++ (loads ++ (count ∷ computes (Op.Immediate Addi less) (base ∷ []) base ∷ store
-    ∷ dups_lines holds (filter (is_among used) fields)))))
-    ++ (acts (Label behind) [] ∷ []))))
-
--- A cell becomes the token of a value, and the code goes on behind the opening. Where a construction stands there that fills this
--- token's cell, whose variable is given, it goes on behind the test of that construction, at its label `filled`.
-abbrev pub token_ends : Option ℕ → ℕ → ℕ → ℕ → ℕ → List Line
-token_ends None x token behind filled = copies_to x token ∷ acts (Jump behind) [] ∷ []
-token_ends (Some into) x token behind filled = copies_to x token ∷ copies_to token into ∷ acts (Jump filled) [] ∷ []
-
--- The cell is the token of a value, which has its address. The value is 0 where the cell has other references.
-abbrev pub TokenUniqueLines : ℕ → (ℕ → Bool) → ℕ → ℕ → ℕ → ℕ → List ℕ → List ℕ → ℕ → Option ℕ → List Line → Type 0
-TokenUniqueLines base holds shared behind filled x fields used token into lines =
-    CountLines base holds shared behind x fields used (token_ends into x token behind filled) (sets 0 token ∷ []) lines
+    × (lines ≡ test ∷ sets 1 (base + 1) ∷ acts (Branch (goes_second into) second) (base ∷ (base + 1) ∷ []) ∷
+    both_ways into second behind filled token (alone_lines holds x fields used token loads)
+    (shared_lines holds fields used token loads (count ∷ computes (Op.Immediate Addi less) (base ∷ []) base ∷ store ∷ [])))
 
 -- ---- tests
 

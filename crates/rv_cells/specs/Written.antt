@@ -1,11 +1,11 @@
 -- What was written of a function's assembler code, from its counted form.
-use Rattle.std.specs.Prelude.{Option, ◌≡◌, ℕ, ◌+◌, ◌-◌, ◌^◌, Bool, false, List, [], ◌∷◌, ◌++◌, map, slice_index_or}
+use Rattle.std.specs.Prelude.{Option, ◌≡◌, ℕ, ◌+◌, ◌-◌, ◌^◌, Bool, true, false, List, [], ◌∷◌, ◌++◌, map, slice_index_or}
 use Rattle.kk_syntax.specs.declared.program.Form.{Form}
 use Rattle.kk_core.specs.Decisions.{node_tree}
 use Rattle.kk_core.specs.declared.decisions.Answer.{Answer}
 use Rattle.kk_counted.specs.TokenedWords.{prints_in_form}
 use Rattle.rv_isa.specs.declared.asm.Action.TheVariants.{Branch}
-use Rattle.rv_isa.specs.declared.asm.Condition.TheVariants.{NotEqual}
+use Rattle.rv_isa.specs.declared.asm.Condition.{Condition}
 use Rattle.rv_isa.specs.declared.asm.Operation.TheVariants as Op
 use Rattle.rv_isa.specs.declared.asm.ImmediateOperation.TheVariants.{Addi, Andi}
 use Rattle.rv_isa.specs.declared.immediate.Immediate.{Immediate}
@@ -20,7 +20,7 @@ use Rattle.rv_cells.specs.declared.decide.CaseWays.{CaseWays}
 use Rattle.rv_cells.specs.declared.decide.Shown.{Shown}
 use Rattle.rv_cells.specs.declared.decide.Shown.TheVariants.{Word, Tag}
 use Rattle.rv_cells.specs.Layout.{Layout, layout_of, tag_values}
-use Rattle.rv_cells.specs.CellLines.{Loads, Stores, TokenUniqueLines}
+use Rattle.rv_cells.specs.CellLines.{Loads, Stores, alone_lines, shared_lines, TokenUniqueLines}
 use Rattle.rv_cells.specs.CountedLines.{Setting, ComputeLines, Ways, ways_of, answer_word, answer_tag}
 
 -- ---- what is known
@@ -71,17 +71,23 @@ setting_in facts base texts = record {
 
 -- ---- lines
 
--- a branch to a label where the count of a cell is not 1
-abbrev pub TestsCount : ℕ → ℕ → ℕ → List Line → Type 0
-TestsCount base shared x lines =
+-- a branch to a label by this test of a cell's count for 1
+abbrev pub TestsCount : ℕ → Condition → ℕ → ℕ → List Line → Type 0
+TestsCount base condition label x lines =
     (test : Line) × Loads x 0 base test
-    × (lines ≡ test ∷ sets 1 (base + 1) ∷ acts (Branch NotEqual shared) (base ∷ (base + 1) ∷ []) ∷ [])
+    × (lines ≡ test ∷ sets 1 (base + 1) ∷ acts (Branch condition label) (base ∷ (base + 1) ∷ []) ∷ [])
 
 -- the count of a cell is lowered
 abbrev pub LowersCellCount : ℕ → ℕ → List Line → Type 0
 LowersCellCount base x lines =
     (count : Line) × (less : Immediate) × (store : Line) × Loads x 0 base count × (less.word ≡ 2 ^ 32 - 1) × Stores x 0 base store
     × (lines ≡ count ∷ computes (Op.Immediate Addi less) (base ∷ []) base ∷ store ∷ [])
+
+-- one way of an opening: of a cell that has no other reference, or of one that has
+abbrev pub WayLines : Bool → ℕ → (ℕ → Bool) → ℕ → List ℕ → List ℕ → ℕ → List Line → List Line → Type 0
+WayLines true base holds x fields used token loads lines = lines ≡ alone_lines holds x fields used token loads
+WayLines false base holds x fields used token loads lines =
+    (lowers : List Line) × LowersCellCount base x lowers × (lines ≡ shared_lines holds fields used token loads lowers)
 
 -- the tag of a value's cell is loaded
 abbrev pub LoadsTag : ℕ → ℕ → List Line → Type 0

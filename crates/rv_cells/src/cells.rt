@@ -1,12 +1,12 @@
 // The lines of the forms that touch cells.
 
-ghost use Rattle.std.specs.Prelude.{◌≡◌, ◌+◌, ◌*◌, true, map, not, filter, IfOk, OnOk};
+ghost use Rattle.std.specs.Prelude.{◌≡◌, ◌+◌, ◌*◌, true, false, map, not, filter, IfOk, OnOk};
 ghost use Rattle.kk_syntax.specs.Shapes.{is_among};
 ghost use Rattle.rv_lower.specs.Written.{short_line, Wrote, WroteLines};
 ghost use Rattle.rv_cells.specs.CellLines.{Loads, Stores, AllLoads, AllStores, dup_lines, drop_lines, dups_lines, drops_lines};
-ghost use Rattle.rv_cells.specs.CellLines.{SomeStores, SetIf, SomeWords, is_kept, ConstructLines, ReadLines, token_ends};
+ghost use Rattle.rv_cells.specs.CellLines.{SomeStores, SetIf, SomeWords, is_kept, ConstructLines, ReadLines, alone_lines, goes_second, leaving_lines};
 ghost use Rattle.rv_cells.specs.TokenedWritten.{variables_known, StoreLines, PushedStore, is_left};
-ghost use Rattle.rv_cells.specs.Written.{holds_known, TestsCount, LowersCellCount, WroteOpening};
+ghost use Rattle.rv_cells.specs.Written.{holds_known, TestsCount, WayLines, LowersCellCount, WroteOpening};
 ghost use Rattle.rv_cells.specs.Layout.{first_field};
 
 use crate::standing::Known;
@@ -287,6 +287,16 @@ fn write_drops(
     Ok(())
 }
 
+/// An opening by the count of a cell: its fields, those in use, the lines that load the fields, and the value of the slot.
+#[derive(Clone, Copy, Drop)]
+struct Opening<'a> {
+    cell: u32,
+    fields: &'a [u32],
+    used: &'a [u32],
+    loads: &'a [Short],
+    token: u32,
+}
+
 /// An opening by the count of the cell: the slot takes one that has no other reference, and else it is null. Where a construction
 /// fills the cell of this slot at once, its variable is given.
 pub fn write_opening(
@@ -302,57 +312,108 @@ pub fn write_opening(
         into lowering.old lowering.new) }
 {
     let token = known.slot(slot)?;
-    let shared = lowering.take_label()?;
+    let second = lowering.take_label()?;
     let behind = lowering.take_label()?;
     let loads = loads(lowering.alloc, cell, fields)?;
-    write_count_test(lowering, cell, shared)?;
-    lowering.write(&loads)?;
-    write_drops(lowering, known, fields, used)?;
-    write_end(lowering, cell, token, into, behind)?;
-    write_label(lowering, shared)?;
-    lowering.write(&[set(0, token)])?;
-    lowering.write(&loads)?;
-    write_less(lowering, cell)?;
-    write_dups(lowering, known, fields, used)?;
+    let opening = Opening {
+        cell,
+        fields,
+        used,
+        loads: &loads,
+        token,
+    };
+    let enters = into.is_some();
+    write_count_test(lowering, cell, into, second)?;
+    write_way(lowering, known, &opening, enters)?;
+    write_leaving(lowering, token, into, behind)?;
+    write_label(lowering, second)?;
+    write_way(lowering, known, &opening, !enters)?;
     write_label(lowering, behind)
 }
 
-/// A branch to a label where the count of a cell is not 1.
-fn write_count_test(lowering: &mut Lowering, cell: u32, shared: u32) -> Result<(), NoMemory>
-    ensures { OnOk result (WroteLines (TestsCount lowering.old.base shared cell) lowering.old lowering.new) }
+/// A branch by the count of a cell to the way that stands second.
+fn write_count_test(
+    lowering: &mut Lowering,
+    cell: u32,
+    into: Option<u32>,
+    second: u32,
+) -> Result<(), NoMemory>
+    ensures { OnOk result (WroteLines (TestsCount lowering.old.base (goes_second into) second cell) lowering.old lowering.new) }
 {
+    let condition = match into {
+        None => Condition::Equal,
+        Some(_) => Condition::NotEqual,
+    };
     let (count, one) = (lowering.base, lowering.temporary(1)?);
     let line = load(cell, COUNT, count)?;
     lowering.write(&[
         line,
         set(1, one),
-        act(
-            Action::Branch(Condition::NotEqual, shared),
-            Reads::Two(count, one),
-        ),
+        act(Action::Branch(condition, second), Reads::Two(count, one)),
     ])
 }
 
-/// Makes a cell the token of a value, and goes on at a label; or behind the test of the construction that fills it, whose label is
-/// the next one.
-fn write_end(
+/// The way of a cell that has no other reference, or that of one that has.
+fn write_way(
     lowering: &mut Lowering,
-    cell: u32,
+    known: &Known<'_>,
+    opening: &Opening<'_>,
+    alone: bool,
+) -> Result<(), NoMemory>
+    ensures { OnOk result (WroteLines (WayLines alone lowering.old.base (holds_known known.now) opening.now.cell
+        opening.now.fields.now opening.now.used.now opening.now.token (map short_line opening.now.loads.now))
+        lowering.old lowering.new) }
+{
+    if alone {
+        return write_alone(lowering, known, opening);
+    }
+    write_shared(lowering, known, opening)
+}
+
+/// The way of a cell that has no other reference: it becomes the token.
+fn write_alone(
+    lowering: &mut Lowering,
+    known: &Known<'_>,
+    opening: &Opening<'_>,
+) -> Result<(), NoMemory>
+    ensures { OnOk result (Wrote (alone_lines (holds_known known.now) opening.now.cell opening.now.fields.now
+        opening.now.used.now opening.now.token (map short_line opening.now.loads.now)) lowering.old lowering.new) }
+{
+    lowering.write(opening.loads)?;
+    write_drops(lowering, known, opening.fields, opening.used)?;
+    lowering.write(&[copy(opening.cell, opening.token)])
+}
+
+/// The way of a cell that has other references: the token is null, and the count is lowered.
+fn write_shared(
+    lowering: &mut Lowering,
+    known: &Known<'_>,
+    opening: &Opening<'_>,
+) -> Result<(), NoMemory>
+    ensures { OnOk result (WroteLines (WayLines false lowering.old.base (holds_known known.now) opening.now.cell
+        opening.now.fields.now opening.now.used.now opening.now.token (map short_line opening.now.loads.now))
+        lowering.old lowering.new) }
+{
+    lowering.write(&[set(0, opening.token)])?;
+    lowering.write(opening.loads)?;
+    write_less(lowering, opening.cell)?;
+    write_dups(lowering, known, opening.fields, opening.used)
+}
+
+/// Goes on at a label; or behind the test of the construction that fills the cell of a token, whose label is the next one.
+fn write_leaving(
+    lowering: &mut Lowering,
     token: u32,
     into: Option<u32>,
     behind: u32,
 ) -> Result<(), NoMemory>
-    ensures { OnOk result (Wrote (token_ends into cell token behind (behind + 1)) lowering.old lowering.new) }
+    ensures { OnOk result (Wrote (leaving_lines into token behind (behind + 1)) lowering.old lowering.new) }
 {
     let Some(into) = into else {
-        return lowering.write(&[copy(cell, token), act(Action::Jump(behind), Reads::Nothing)]);
+        return lowering.write(&[act(Action::Jump(behind), Reads::Nothing)]);
     };
     let filled = next(behind)?;
-    lowering.write(&[
-        copy(cell, token),
-        copy(token, into),
-        act(Action::Jump(filled), Reads::Nothing),
-    ])
+    lowering.write(&[copy(token, into), act(Action::Jump(filled), Reads::Nothing)])
 }
 
 /// Lowers the count of a cell.
