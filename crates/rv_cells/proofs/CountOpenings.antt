@@ -1,5 +1,5 @@
 -- Openings by the count of the cell, as lines: on each way, up to what is done with the cell.
-use Rattle.std.proofs.Common.{◌≡◌, ◌≢◌, ◌<◌, ◌≤◌, ℕ, suc, ◌+◌, ◌*◌, true, false, not, inl, inr, List, [], ◌∷◌, ◌++◌, length, Option, Some, None, nat_eq, refl, sym, ◌∙◌, ap, subst, arith, append_assoc}
+use Rattle.std.proofs.Common.{◌≡◌, ◌≢◌, ◌<◌, ◌≤◌, ℕ, suc, ◌+◌, ◌*◌, true, false, not, inl, inr, List, [], ◌∷◌, ◌++◌, length, Option, Some, None, nat_eq, cond, ◌==◌, refl, sym, ◌∙◌, ap, subst, arith, append_assoc}
 use Rattle.std.specs.Prelude.{filter}
 use Rattle.std.proofs.lemmas.Bool.{cases_eq}
 use Rattle.std.proofs.lemmas.Bool.Decides.{nat_tests}
@@ -21,7 +21,7 @@ use Rattle.rv_isa.specs.Arithmetic.{sum_word}
 use Rattle.rv_isa.specs.AsmCode.{Line}
 use Rattle.rv_isa.specs.AsmMachine.{AsmTurn, is_label}
 use Rattle.rv_isa.specs.Processor.{Ending}
-use Rattle.rv_isa.specs.Frames.{Frame, found}
+use Rattle.rv_isa.specs.Frames.{Frame, put, found}
 use Rattle.cell_heap.specs.Blocks.{Cells, own, with_block, with_word}
 use Rattle.cell_runtime.specs.World.{World, with_cells}
 use Rattle.cell_runtime.specs.Operations.{compares}
@@ -35,7 +35,7 @@ use Rattle.rv_cells.proofs.Owners.{chosen_same, chosen_other}
 use Rattle.rv_cells.proofs.Words.{load_own, store_own, cell_named, recount, opened_unique}
 use Rattle.rv_cells.proofs.Cascades.{busy_set}
 use Rattle.rv_lower.proofs.FormEffects.{put_same, put_other}
-use Rattle.rv_cells.proofs.Values.{HasValues, has_temporary, MadeBy, named_made}
+use Rattle.rv_cells.proofs.Values.{HasValues, has_other, has_temporary, MadeBy, named_made}
 use Rattle.rv_cells.proofs.Runs.{turn_of, Runs, runs_then}
 use Rattle.rv_cells.proofs.CellActions.{put_in, load_runs, sets_runs, store_runs, addi_runs, label_runs, jump_runs, falls_runs, branch_runs}
 use Rattle.rv_cells.proofs.Spots.{AreSmall, Spot, Known, Here, Did, saved}
@@ -155,15 +155,15 @@ module _ (known : Known) (o : CountOpening known) where
   abbrev pub ending : List Line
   ending = acts (Label behind) [] ∷ rest
 
-  abbrev pub lowers : List Line
-  lowers = uniques.2 ∷ computes (Op.Immediate Addi uniques.3) (known.base ∷ []) known.base ∷ uniques.4 ∷ dups
+  abbrev lowers : List Line
+  lowers = uniques.2 ∷ computes (Op.Immediate Addi uniques.3) (known.base ∷ []) known.base ∷ uniques.4 ∷ sets 0 token ∷ dups
 
   -- the way of a cell of one reference, and that of a cell of several
   abbrev alone : List Line
   alone = alone_lines known.holds x fields used token loads
 
   abbrev shared : List Line
-  shared = sets 0 token ∷ (loads ++ lowers)
+  shared = loads ++ lowers
 
   -- which stands first, and which second, and how the first one ends
   abbrev pub leaving : Option ℕ → List Line
@@ -352,11 +352,11 @@ module _ (known : Known) (o : CountOpening known) where
   -- the cost to come to the way of a cell of several references, and that to leave it
   abbrev come_cost : Option ℕ → ℕ
   come_cost None = 3 * most_moves + 7
-  come_cost (Some made) = 4 * most_moves + 7
+  come_cost (Some _) = 4 * most_moves + 7
 
   abbrev leave_cost : Option ℕ → ℕ
   leave_cost None = 2 * most_moves + 2
-  leave_cost (Some made) = most_moves
+  leave_cost (Some _) = most_moves
 
   both_cheap : (into : Option ℕ) → come_cost into + leave_cost into ≤ 5 * most_moves + 9
   both_cheap None = omega arith
@@ -515,39 +515,32 @@ module _ (known : Known) (o : CountOpening known) where
 
   -- ---- a cell of several references
 
-  -- from the frame that the first lines of this way leave
+  -- The fields are loaded, the count is lowered, the token is null, and the fields in use get a reference more.
 
   module _ (n : ℕ) (several : count_at s.heap named.at ≡ suc (suc n))
       (given : dup_all (used_values used fields named.fields) (set_count named.at (suc n) s.heap) ≡ Some next)
       (small : AreSmall (length (filter (is_among used) fields)) s.heap)
       (finds : Finds second s.frame (for_second o.into ++ ending)) (finds_behind : Finds behind s.frame ending)
-      (begin_cost begin_steps : ℕ) (cleared : ℕ → Option ℕ)
-      (clears : Runs known.target begin_cost begin_steps (turn_of (shared ++ behind_shared o.into) tests fs s.world)
-      (turn_of ((loads ++ lowers) ++ behind_shared o.into) (record tests { cells = cleared }) fs s.world))
-      (values_cleared : HasValues known.layout s.address known.holds known.base (length s.heap) s.bound s.environment cleared) where
-    abbrev clear_frame : Frame Line
-    clear_frame = record tests { cells = cleared }
-
+      (spare : is_among (bound_list fields s.bound) token ≡ false) where
     abbrev one : Spot
-    one = one_from clear_frame
+    one = one_from tests
 
-    here_cleared : Here known (at_frame s clear_frame)
-    here_cleared = record { follows = here.follows; values = values_cleared }
+    read_shared : Did known (row_cost fields (most_moves + 2)) loads (lowers ++ behind_shared o.into) fs (at_frame s tests) one
+    read_shared = read_did known (lowers ++ behind_shared o.into) fs (at_frame s tests) x c fields loads named here_tests
+        (still_reads known s tests x c fields named reads) uniques.6
 
-    read_shared : Did known (row_cost fields (most_moves + 2)) loads (lowers ++ behind_shared o.into) fs (at_frame s clear_frame)
-        one
-    read_shared = read_did known (lowers ++ behind_shared o.into) fs (at_frame s clear_frame) x c fields loads named here_cleared
-        (still_reads known s clear_frame x c fields named reads) uniques.6
-
-    -- the frame behind the count that is lowered, and the cells
+    -- the frame behind the count that is lowered, and behind the null token; and the cells
     abbrev counts : Frame Line
     counts = put_in known.base (suc n) (put_in known.base (suc (suc n)) one.frame)
+
+    abbrev cleared : Frame Line
+    cleared = put_in token 0 counts
 
     abbrev stored : Cells
     stored = with_block (s.address named.at) (own (with_word 0 (suc n) stands.words)) s.world.cells
 
     abbrev three : Spot
-    three = record one { heap = set_count named.at (suc n) s.heap; frame = counts; world = with_cells s.world stored }
+    three = record one { heap = set_count named.at (suc n) s.heap; frame = cleared; world = with_cells s.world stored }
 
     less_one : sum_word (suc (suc n)) uniques.3.word ≡ suc n
     less_one = let word = uniques.8 in let bound = small named.at in omega arith
@@ -563,22 +556,24 @@ module _ (known : Known) (o : CountOpening known) where
     here_three : Here known three
     here_three = record {
       follows = recount here.follows named.at n stands.words counted stands.is;
-      values = subst (λ k. HasValues known.layout s.address known.holds known.base k one.bound one.environment counts.cells)
+      values = subst (λ k. HasValues known.layout s.address known.holds known.base k one.bound one.environment cleared.cells)
           (sym (set_length named.at (suc n) s.heap))
-          (has_temporary (has_temporary read_shared.here.values known.base (suc (suc n)) (omega arith)) known.base (suc n)
-          (omega arith));
+          (has_other (has_temporary (has_temporary read_shared.here.values known.base (suc (suc n)) (omega arith)) known.base (suc n)
+          (omega arith)) token 0 spare);
     }
 
-    lowers_run : Runs known.target ((most_moves + 2) + ((most_moves + 2) + (most_moves + 3))) (1 + (1 + 1))
-        (turn_of (lowers ++ behind_shared o.into) one.frame fs s.world)
-        (turn_of (dups ++ behind_shared o.into) counts fs (with_cells s.world stored))
+    lowers_run : Runs known.target ((most_moves + 2) + ((most_moves + 2) + ((most_moves + 3) + (most_moves + 2))))
+        (1 + (1 + (1 + 1))) (turn_of (lowers ++ behind_shared o.into) one.frame fs s.world)
+        (turn_of (dups ++ behind_shared o.into) cleared fs (with_cells s.world stored))
     lowers_run =
         let moves = most_moves in
         let target = known.target in
         let f1 = put_in known.base (suc (suc n)) one.frame in
         let low = below_base in
         let count_is : stands.words 0 ≡ Some (suc (suc n)) = count_there ∙ ap Some several in
-        let adds = uniques.4 ∷ (dups ++ behind_shared o.into) in
+        let left = dups ++ behind_shared o.into in
+        let clears = sets 0 token ∷ left in
+        let adds = uniques.4 ∷ clears in
         let loaded = load_runs target (computes (Op.Immediate Addi uniques.3) (known.base ∷ []) known.base ∷ adds) one.frame fs
         s.world x 0 known.base (s.address named.at) (suc (suc n)) uniques.2 uniques.7 x_in_one
         (load_own s.world.cells (s.address named.at) 0 (suc (suc n)) stands.words stands.is (omega arith) count_is) in
@@ -587,17 +582,20 @@ module _ (known : Known) (o : CountOpening known) where
         let t1 = turn_of (lowers ++ behind_shared o.into) one.frame fs s.world in
         let t2 = turn_of (computes (Op.Immediate Addi uniques.3) (known.base ∷ []) known.base ∷ adds) f1 fs s.world in
         let t3 = turn_of adds counts fs s.world in
-        let t4 = turn_of (dups ++ behind_shared o.into) counts fs (with_cells s.world stored) in
+        let t4 = turn_of clears counts fs (with_cells s.world stored) in
+        let t5 = turn_of left cleared fs (with_cells s.world stored) in
         let adding : Runs target (moves + 2) 1 t2 t3 = subst
         (λ w. Runs target (moves + 2) 1 t2 (turn_of adds (put_in known.base w f1) fs s.world)) less_one added in
         let x_here : counts.cells x ≡ Some (s.address named.at) =
         put_other known.base x (suc n) f1.cells (λ e. omega arith) ∙ put_other known.base x (suc (suc n)) one.frame.cells
         (λ e. omega arith) ∙ x_in_one in
-        let storing = store_runs target (dups ++ behind_shared o.into) counts fs s.world x 0 known.base (s.address named.at)
-        (suc n) uniques.4 stored uniques.9 x_here (put_same known.base (suc n) f1.cells)
+        let storing = store_runs target clears counts fs s.world x 0 known.base (s.address named.at) (suc n) uniques.4 stored
+        uniques.9 x_here (put_same known.base (suc n) f1.cells)
         (store_own s.world.cells (s.address named.at) 0 (suc n) stands.words stands.is (omega arith)) in
-        runs_then target (moves + 2) ((moves + 2) + (moves + 3)) 1 (1 + 1) t1 t2 t4 loaded
-        (runs_then target (moves + 2) (moves + 3) 1 1 t2 t3 t4 adding storing)
+        let clearing = sets_runs target left counts fs (with_cells s.world stored) 0 token in
+        runs_then target (moves + 2) ((moves + 2) + ((moves + 3) + (moves + 2))) 1 (1 + (1 + 1)) t1 t2 t5 loaded
+        (runs_then target (moves + 2) ((moves + 3) + (moves + 2)) 1 (1 + 1) t2 t3 t5 adding
+        (runs_then target (moves + 3) (moves + 2) 1 1 t3 t4 t5 storing clearing))
 
     fewer_counts : (name : ℕ) → count_at (set_count named.at (suc n) s.heap) name ≤ count_at s.heap name
     fewer_counts name =
@@ -610,8 +608,8 @@ module _ (known : Known) (o : CountOpening known) where
         ]
 
     pub lessens : (frame : Frame Line) × (owners : ℕ → Owner) × (cells : Cells)
-        × Comes (begin_cost + (8 * most_moves + 16 + row_cost fields (most_moves + 2)
-        + row_cost (filter (is_among used) fields) (most_moves + 5))) rest cleared frame owners cells
+        × Comes (9 * most_moves + 18 + row_cost fields (most_moves + 2)
+        + row_cost (filter (is_among used) fields) (most_moves + 5)) rest (put token (Some 0) s.frame.cells) frame owners cells
         × ((y : ℕ) → is_aside (s.owners y) ≡ true → owners y ≡ s.owners y)
         × ((y : ℕ) → is_aside (owners y) ≡ true → owners y ≡ s.owners y)
     lessens =
@@ -627,32 +625,29 @@ module _ (known : Known) (o : CountOpening known) where
         let world = with_cells s.world dupped.1 in
         let test : nat_eq (count_at s.heap named.at) 1 ≡ false = grind (arith, nat_tests) in
         let comes = to_shared o.into test finds in
-        let leaves = leaves_shared o.into counts world (ap (λ w. found (λ line. is_label behind line.action) w) did.whole
+        let leaves = leaves_shared o.into cleared world (ap (λ w. found (λ line. is_label behind line.action) w) did.whole
         ∙ finds_behind) in
         let left = behind_shared o.into in
         let t0 = turn_of (head_of o.into ++ (for_second o.into ++ ending)) s.frame fs s.world in
         let t1 = turn_of (shared ++ left) tests fs s.world in
-        let t2 = turn_of ((loads ++ lowers) ++ left) clear_frame fs s.world in
-        let t3 = turn_of (lowers ++ left) one.frame fs s.world in
-        let t4 = turn_of (dups ++ left) counts fs (with_cells s.world stored) in
-        let t5 = turn_of left counts fs world in
-        let t6 = turn_of rest counts fs world in
+        let t2 = turn_of (lowers ++ left) one.frame fs s.world in
+        let t3 = turn_of (dups ++ left) cleared fs (with_cells s.world stored) in
+        let t4 = turn_of left cleared fs world in
+        let t5 = turn_of rest cleared fs world in
         let read = read_shared in
-        let reading : Runs target read.cost read.steps t2 t3 =
-        subst (λ ls. Runs target read.cost read.steps (turn_of ls clear_frame fs s.world) t3)
+        let reading : Runs target read.cost read.steps t1 t2 =
+        subst (λ ls. Runs target read.cost read.steps (turn_of ls tests fs s.world) t2)
         (sym (append_assoc loads lowers left)) read.runs in
-        let lowering = (moves + 2) + ((moves + 2) + (moves + 3)) in
-        let end_two = runs_then target did.cost leaves.cost did.steps leaves.steps t4 t5 t6 did.runs leaves.runs in
-        let end_three = runs_then target lowering (did.cost + leaves.cost) (1 + (1 + 1)) (did.steps + leaves.steps) t3 t4 t6 lowers_run
-        end_two in
+        let lowering = (moves + 2) + ((moves + 2) + ((moves + 3) + (moves + 2))) in
+        let end_two = runs_then target did.cost leaves.cost did.steps leaves.steps t3 t4 t5 did.runs leaves.runs in
+        let end_three = runs_then target lowering (did.cost + leaves.cost) (1 + (1 + (1 + 1))) (did.steps + leaves.steps) t2 t3 t5
+        lowers_run end_two in
         let end_four = runs_then target read.cost (lowering + (did.cost + leaves.cost)) read.steps
-        ((1 + (1 + 1)) + (did.steps + leaves.steps)) t2 t3 t6 reading end_three in
-        let end_five = runs_then target begin_cost (read.cost + (lowering + (did.cost + leaves.cost))) begin_steps
-        (read.steps + ((1 + (1 + 1)) + (did.steps + leaves.steps))) t1 t2 t6 clears end_four in
-        let cost = comes.cost + (begin_cost + (read.cost + (lowering + (did.cost + leaves.cost)))) in
-        let steps = comes.steps + (begin_steps + (read.steps + ((1 + (1 + 1)) + (did.steps + leaves.steps)))) in
-        let whole = runs_then target comes.cost (begin_cost + (read.cost + (lowering + (did.cost + leaves.cost)))) comes.steps
-        (begin_steps + (read.steps + ((1 + (1 + 1)) + (did.steps + leaves.steps)))) t0 t1 t6 comes.runs end_five in
+        ((1 + (1 + (1 + 1))) + (did.steps + leaves.steps)) t1 t2 t5 reading end_three in
+        let cost = comes.cost + (read.cost + (lowering + (did.cost + leaves.cost))) in
+        let steps = comes.steps + (read.steps + ((1 + (1 + (1 + 1))) + (did.steps + leaves.steps))) in
+        let whole = runs_then target comes.cost (read.cost + (lowering + (did.cost + leaves.cost))) comes.steps
+        (read.steps + ((1 + (1 + (1 + 1))) + (did.steps + leaves.steps))) t0 t1 t5 comes.runs end_four in
         let cells = busy_set named.at (suc n) (suc n) s.heap several in
         let weights = kept_weight named.at n (suc n) s.heap several in
         let cheap_first = comes.cheap in
@@ -660,19 +655,20 @@ module _ (known : Known) (o : CountOpening known) where
         let cheap_both = both_cheap o.into in
         let cheap_read = read.within in
         let cheap = did.within in (
-          counts,
+          cleared,
           dupped.0,
           dupped.1,
           record {
             cost = cost;
             steps = steps;
             within = omega arith;
-            runs = subst (λ ls. Runs target cost steps (turn_of ls s.frame fs s.world) t6) (sym whole_lines) whole;
+            runs = subst (λ ls. Runs target cost steps (turn_of ls s.frame fs s.world) t5) (sym whole_lines) whole;
             here = did.here;
             spared = λ z low none. did.spared z low none
-                ∙ put_other known.base z (suc n) (put_in known.base (suc (suc n)) one.frame).cells (λ e. omega (arith, e, low))
+                ∙ ap (λ (word : Option ℕ). cond (z == token) (Some 0) word)
+                (put_other known.base z (suc n) (put_in known.base (suc (suc n)) one.frame).cells (λ e. omega (arith, e, low))
                 ∙ put_other known.base z (suc (suc n)) one.frame.cells (λ e. omega (arith, e, low))
-                ∙ read.spared z low none;
+                ∙ read.spared z low none ∙ tests_spare z low);
             whole = did.whole;
             function = did.function;
             held = did.held;

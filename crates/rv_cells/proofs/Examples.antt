@@ -130,8 +130,8 @@ tests_lines = acts (Label 2) [] ∷ test_lines
 abbrev opening_lines : List Line
 opening_lines =
     loads immediate_0 0 8 ∷ sets 1 9 ∷ acts (Branch Equal 5) (8 ∷ 9 ∷ [])
-    ∷ sets 0 7 ∷ loads immediate_8 0 1 ∷ loads immediate_12 0 2
-    ∷ loads immediate_0 0 8 ∷ computes (Op.Immediate Addi minus_one) (8 ∷ []) 8 ∷ stores immediate_0 0 8
+    ∷ loads immediate_8 0 1 ∷ loads immediate_12 0 2
+    ∷ loads immediate_0 0 8 ∷ computes (Op.Immediate Addi minus_one) (8 ∷ []) 8 ∷ stores immediate_0 0 8 ∷ sets 0 7
     ∷ acts (Compute Op.Dup) (2 ∷ []) ∷ acts (Jump 6) []
     ∷ acts (Label 5) [] ∷ loads immediate_8 0 1 ∷ loads immediate_12 0 2 ∷ copies_to 0 7 ∷ acts (Label 6) [] ∷ []
 
@@ -206,8 +206,8 @@ two_loads_are = (
 opened_by : (into : Option ℕ) → TokenUniqueLines 8 inc_holds 5 6 7 0 (1 ∷ 2 ∷ []) (1 ∷ 2 ∷ []) 7 into
     (loads immediate_0 0 8 ∷ sets 1 9 ∷ acts (Branch (goes_second into) 5) (8 ∷ 9 ∷ [])
     ∷ both_ways into 5 6 7 7 (loads immediate_8 0 1 ∷ loads immediate_12 0 2 ∷ copies_to 0 7 ∷ [])
-    (sets 0 7 ∷ loads immediate_8 0 1 ∷ loads immediate_12 0 2 ∷ loads immediate_0 0 8
-    ∷ computes (Op.Immediate Addi minus_one) (8 ∷ []) 8 ∷ stores immediate_0 0 8 ∷ acts (Compute Op.Dup) (2 ∷ []) ∷ []))
+    (loads immediate_8 0 1 ∷ loads immediate_12 0 2 ∷ loads immediate_0 0 8
+    ∷ computes (Op.Immediate Addi minus_one) (8 ∷ []) 8 ∷ stores immediate_0 0 8 ∷ sets 0 7 ∷ acts (Compute Op.Dup) (2 ∷ []) ∷ []))
 opened_by into = (
   loads immediate_0 0 8,
   two_loads,
@@ -229,8 +229,8 @@ opens = opened_by None
 enters : OpeningLines (setting inc_holds 8) 7 5 0 (1 ∷ 2 ∷ []) (1 ∷ 2 ∷ []) 0 (Tokened.fill 6 0 3 1 (2 ∷ []) [] [] (Tokened.give 6))
     (loads immediate_0 0 8 ∷ sets 1 9 ∷ acts (Branch NotEqual 5) (8 ∷ 9 ∷ [])
     ∷ loads immediate_8 0 1 ∷ loads immediate_12 0 2 ∷ copies_to 0 7 ∷ copies_to 7 6 ∷ acts (Jump 7) []
-    ∷ acts (Label 5) [] ∷ sets 0 7 ∷ loads immediate_8 0 1 ∷ loads immediate_12 0 2
-    ∷ loads immediate_0 0 8 ∷ computes (Op.Immediate Addi minus_one) (8 ∷ []) 8 ∷ stores immediate_0 0 8
+    ∷ acts (Label 5) [] ∷ loads immediate_8 0 1 ∷ loads immediate_12 0 2
+    ∷ loads immediate_0 0 8 ∷ computes (Op.Immediate Addi minus_one) (8 ∷ []) 8 ∷ stores immediate_0 0 8 ∷ sets 0 7
     ∷ acts (Compute Op.Dup) (2 ∷ []) ∷ acts (Label 6) [] ∷ [])
 enters = (Some 6, (refl, refl), opened_by (Some 6))
 

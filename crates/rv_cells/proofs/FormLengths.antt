@@ -142,9 +142,9 @@ module _ (holds : ℕ → Bool) where
       let copied : List Line = copies_to x token ∷ [] in
       let dropped : List Line = drops_lines holds others in
       let dupped : List Line = dups_lines holds kept in
-      let lowered : List Line = is.2 ∷ computes (Op.Immediate Addi is.3) (base ∷ []) base ∷ is.4 ∷ dupped in
+      let lowered : List Line = is.2 ∷ computes (Op.Immediate Addi is.3) (base ∷ []) base ∷ is.4 ∷ sets 0 token ∷ dupped in
       let alone : List Line = is.1 ++ (dropped ++ copied) in
-      let shared : List Line = sets 0 token ∷ (is.1 ++ lowered) in
+      let shared : List Line = is.1 ++ lowered in
       let whole = ap code_length is.10 in
       let both = ways_length into second behind filled token alone shared in
       let leaves = leaving_length into token behind filled in

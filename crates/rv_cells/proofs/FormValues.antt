@@ -183,29 +183,28 @@ module _ (most : ℕ) where
       let unused : List ℕ = filter (λ y. not (is_among used y)) fields in
       let kept : List ℕ = filter (is_among used) fields in
       let dropped : List Line = drops_lines holds unused ++ (copies_to x token ∷ []) in
-      let lowered : List Line = is.2 ∷ computes (Op.Immediate Addi is.3) (base ∷ []) base ∷ is.4 ∷ dups_lines holds kept in
+      let lowered : List Line = is.2 ∷ computes (Op.Immediate Addi is.3) (base ∷ []) base ∷ is.4 ∷ sets 0 token
+      ∷ dups_lines holds kept in
       subst (AreLinesBelow most) (sym is.10) (
         load_below x 0 base is.0 less base_less is.5,
         (
           (tt, room),
           (
             ((base_less, (room, tt)), tt),
-            ways_below into second behind filled token (is.1 ++ dropped) (sets 0 token ∷ (is.1 ++ lowered)) token_less into_less
+            ways_below into second behind filled token (is.1 ++ dropped) (is.1 ++ lowered) token_less into_less
                 (lines_joined most is.1 dropped loads
                 (lines_joined most (drops_lines holds unused) (copies_to x token ∷ [])
-                (drops_below holds unused (some_below (λ y. not (is_among used y)) fields below)) (((less, tt), token_less), tt))) (
-                  (tt, token_less),
-                  lines_joined most is.1 lowered loads (
-                    load_below x 0 base is.2 less base_less is.7,
+                (drops_below holds unused (some_below (λ y. not (is_among used y)) fields below)) (((less, tt), token_less), tt)))
+                (lines_joined most is.1 lowered loads (
+                  load_below x 0 base is.2 less base_less is.7,
+                  (
+                    ((base_less, tt), base_less),
                     (
-                      ((base_less, tt), base_less),
-                      (
-                        store_below x 0 base is.4 less base_less is.9,
-                        dups_below holds kept (some_below (is_among used) fields below),
-                      ),
+                      store_below x 0 base is.4 less base_less is.9,
+                      ((tt, token_less), dups_below holds kept (some_below (is_among used) fields below)),
                     ),
                   ),
-                ),
+                )),
           ),
         ),
       )

@@ -40,12 +40,6 @@ front_within (x ∷ fields) bound more within v is =
 pub listed_within : (fields bound : List ℕ) → IsWithin (fields ++ bound) (bound_list fields bound)
 listed_within fields bound v is = sym (listed fields bound v) ∙ is
 
--- a variable that is bound behind fields is so before them
-pub listed_behind : (fields bound : List ℕ) (x : ℕ) → IsWithin (x ∷ bound_list fields bound) (bound_list fields (x ∷ bound))
-listed_behind fields bound x v is =
-    sym (listed fields (x ∷ bound) v) ∙ bound_behind fields bound x v
-    ∙ ap (λ (t : Bool). (x == v) || t) (listed fields bound v) ∙ is
-
 pub room_front : (base : ℕ) (bound fields : List ℕ) → HasRoom base bound → AreBelow base fields → HasRoom base (fields ++ bound)
 room_front base bound fields has below = record {
   room = has.room;

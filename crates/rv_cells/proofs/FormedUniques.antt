@@ -21,10 +21,9 @@ use Rattle.rv_lower.proofs.WellFormedness.{good_hands, readable_small, readable_
 use Rattle.rv_lower.proofs.AbsentLabels.{HasNo, has_no_append, found_past, found_here, alive_at_past, alive_at_here, other_label}
 use Rattle.rv_lower.proofs.Operations.{Leads, leads_then, leads_weaker, next_temporary, only_bound}
 use Rattle.rv_lower.proofs.Codes.{Ahead, Fits, StandsAhead, stands_past, good_alone, good_label, goal_up}
-use Rattle.rv_cells.specs.CellLines.{Loads, Stores, AllLoads, dups_lines, drops_lines, alone_lines, goes_second, both_ways, TokenUniqueLines}
+use Rattle.rv_cells.specs.CellLines.{Loads, Stores, AllLoads, dups_lines, drops_lines, alone_lines, shared_lines, goes_second, both_ways, TokenUniqueLines}
 use Rattle.rv_cells.proofs.CellForms.{one_store, loads_lead, dups_lead, drops_lead}
-use Rattle.rv_cells.proofs.CellForms.{room_list, kept_list, bound_fields, bound_filter}
-use Rattle.rv_cells.proofs.FormedOrders.{listed_behind}
+use Rattle.rv_cells.proofs.CellForms.{room_list, kept_list, bound_later, bound_fields, bound_filter}
 use Rattle.rv_cells.specs.Layout.{first_field}
 
 assoc_inner : (a b c z : List Line) → (a ++ (b ++ c)) ++ z ≡ a ++ (b ++ (c ++ z))
@@ -53,23 +52,18 @@ module _ (base : ℕ) (bound : List ℕ) (has : HasRoom base bound) (holds : ℕ
   x_taken : is_bound taken x ≡ true
   x_taken = kept_list bound fields x is
 
-  -- the count is lowered, and the fields in use get a reference more
+  -- the count is lowered
   lowers : (count store : Line) (less : Immediate) → Loads x 0 base count → Stores x 0 base store
-      → Leads Taken Taken (1 + (1 + (1 + length kept)))
-      (count ∷ computes (Op.Immediate Addi less) (base ∷ []) base ∷ store ∷ dups_lines holds kept)
+      → Leads Taken Taken (1 + (1 + 1)) (count ∷ computes (Op.Immediate Addi less) (base ∷ []) base ∷ store ∷ [])
   lowers count store less loads stores =
-      leads_then Taken Counted Taken 1 (1 + (1 + length kept)) (count ∷ [])
-      (computes (Op.Immediate Addi less) (base ∷ []) base ∷ store ∷ dups_lines holds kept)
+      leads_then Taken Counted Taken 1 (1 + 1) (count ∷ []) (computes (Op.Immediate Addi less) (base ∷ []) base ∷ store ∷ [])
       (subst (λ (l : Line). Leads Taken Counted 1 (l ∷ [])) (sym loads.2)
       (next_temporary base taken room_taken base (Op.Lw loads.0) (x ∷ []) (omega arith) refl (omega arith) (inl x_taken, tt)))
-      (leads_then Counted Counted Taken 1 (1 + length kept) (computes (Op.Immediate Addi less) (base ∷ []) base ∷ [])
-      (store ∷ dups_lines holds kept) again
-      (leads_then Counted Taken Taken 1 (length kept) (store ∷ []) (dups_lines holds kept)
+      (leads_then Counted Counted Taken 1 1 (computes (Op.Immediate Addi less) (base ∷ []) base ∷ []) (store ∷ []) again
       (leads_weaker Counted Counted Counted Taken 1 1 (store ∷ []) (λ v is. is)
       (λ v is. readable_more base base (base + 1) taken (omega arith) v is) (omega arith)
       (one_store base taken (base + 1) x 0 base store room_taken (omega arith) (inl x_taken) (inr
-      (omega arith, omega arith)) stores))
-      (dups_lead base taken holds kept room_taken (bound_filter taken (is_bound used) fields (bound_fields bound fields)).0)))
+      (omega arith, omega arith)) stores)))
     where
       again : Leads Counted Counted 1 (computes (Op.Immediate Addi less) (base ∷ []) base ∷ [])
       again = record {
@@ -80,13 +74,32 @@ module _ (base : ℕ) (bound : List ℕ) (has : HasRoom base bound) (holds : ℕ
             (let room = has.room in omega (arith, room)) (λ v is _. is) good;
       }
 
-  -- the way of a shared cell, where nothing else is done
-  pub lowered_leads : (loads : List Line) → AllLoads x first_field fields loads → (count store : Line) (less : Immediate)
-      → Loads x 0 base count → Stores x 0 base store → Leads Before Taken (length fields + (1 + (1 + (1 + length kept))))
-      (loads ++ (count ∷ computes (Op.Immediate Addi less) (base ∷ []) base ∷ store ∷ dups_lines holds kept))
-  lowered_leads loads all_loads count store less loads_count stores =
-      leads_then Before Taken Taken (length fields) (1 + (1 + (1 + length kept))) loads _
-      (loads_lead base bound x 2 fields loads has is below all_loads) (lowers count store less loads_count stores)
+  -- The way of a shared cell: the value of the slot is written behind the store of the count.
+  module _ (token : ℕ) (less_base : token < base) where
+    abbrev Nulled : ℕ → Type 0
+    Nulled = Readable base base (token ∷ taken)
+
+    nulls : Leads Taken Nulled 1 (sets 0 token ∷ [])
+    nulls = record {
+      no_label = λ l. (refl, tt);
+      few = omega arith;
+      good = λ rest good. to_variable base base taken (Op.Li 0) [] token rest room_taken (omega arith) refl (omega arith) tt less_base
+          good;
+    }
+
+    dups : Leads Nulled Nulled (length kept) (dups_lines holds kept)
+    dups = dups_lead base (token ∷ taken) holds kept (room_more base taken token room_taken less_base)
+        (bound_filter (token ∷ taken) (is_bound used) fields (bound_later base taken token fields (bound_fields bound fields))).0
+
+    shared_leads : (loads : List Line) → AllLoads x first_field fields loads → (count store : Line) (less : Immediate)
+        → Loads x 0 base count → Stores x 0 base store → Leads Before Nulled (length fields + ((1 + (1 + 1)) + (1 + length kept)))
+        (loads ++ ((count ∷ computes (Op.Immediate Addi less) (base ∷ []) base ∷ store ∷ []) ++ (sets 0 token ∷ dups_lines holds kept)))
+    shared_leads loads all_loads count store less loads_count stores =
+        leads_then Before Taken Nulled (length fields) ((1 + (1 + 1)) + (1 + length kept)) loads _
+        (loads_lead base bound x 2 fields loads has is below all_loads)
+        (leads_then Taken Taken Nulled (1 + (1 + 1)) (1 + length kept) _ (sets 0 token ∷ dups_lines holds kept)
+        (lowers count store less loads_count stores)
+        (leads_then Taken Nulled Nulled 1 (length kept) (sets 0 token ∷ []) (dups_lines holds kept) nulls dups))
 
   -- By what is bound behind it: the first way leads to a label ahead, past those of the second one, and these lead behind it.
   module _ (behind outer : List ℕ) (goal : Goal) (low high : ℕ) (more : List Line)
@@ -241,19 +254,13 @@ fits_token_unique base bound outer has holds x is fields used below token less g
     unused : List ℕ
     unused = filter (λ y. not (is_bound used y)) fields
 
-    size : ℕ
-    size = length fields + (1 + (1 + (1 + length (filter (is_bound used) fields))))
-
-    lowered : List Line
-    lowered = unique.1 ++ (unique.2 ∷ computes (Op.Immediate Addi unique.3) (base ∷ []) base ∷ unique.4 ∷ dups_lines holds
-        (filter (is_bound used) fields))
-
     -- the way of a cell that nothing else refers to, and that of a shared one
     alone : List Line
     alone = alone_lines holds x fields used token unique.1
 
     shared : List Line
-    shared = sets 0 token ∷ lowered
+    shared = shared_lines holds fields used token unique.1
+        (unique.2 ∷ computes (Op.Immediate Addi unique.3) (base ∷ []) base ∷ unique.4 ∷ [])
 
     has_after : HasRoom base after
     has_after = room_list base bound fields has below
@@ -280,26 +287,10 @@ fits_token_unique base bound outer has holds x is fields used below token less g
         (leads_then (Readable base base after) (Readable base base after) Behind (length unused) 1 (drops_lines holds unused)
         (copies_to x token ∷ []) drops_lead_on written)
 
-    nulls : Leads Before (Readable base base (token ∷ bound)) 1 (sets 0 token ∷ [])
-    nulls = record {
-      no_label = λ l. (refl, tt);
-      few = omega arith;
-      good = λ rest good. to_variable base base bound (Op.Li 0) [] token rest has (omega arith) refl (omega arith) tt less good;
-    }
-
-    lowers_lead : Leads (Readable base base (token ∷ bound)) Behind size lowered
-    lowers_lead = leads_weaker (Readable base base (token ∷ bound)) (Readable base base (token ∷ bound))
-        (Readable base base (bound_list fields (token ∷ bound))) Behind size size lowered
-        (λ v readable. readable)
-        (readable_within base base (token ∷ after) (bound_list fields (token ∷ bound)) (listed_behind fields bound token))
-        (omega arith)
-        (lowered_leads base (token ∷ bound) (room_more base bound token has less) holds x
-        (or_right (token == x) (is_bound bound x) is) fields used below unique.1 unique.6 unique.2 unique.4 unique.3 unique.7
-        unique.9)
-
-    shared_leads : Leads Before Behind (1 + size) shared
-    shared_leads = leads_then Before (Readable base base (token ∷ bound)) Behind 1 size (sets 0 token ∷ []) lowered nulls
-        lowers_lead
+    shared_lead : Leads Before Behind
+        (length fields + ((1 + (1 + 1)) + (1 + length (filter (is_bound used) fields)))) shared
+    shared_lead = shared_leads base bound has holds x is fields used below token less unique.1 unique.6 unique.2 unique.4 unique.3
+        unique.7 unique.9
 
     -- a jump to a label ahead
     jumps : (B : ℕ → Type 0) (label : ℕ) (rest : List Line) → StandsAhead B label rest → AreFormed rest
@@ -313,7 +304,7 @@ fits_token_unique base bound outer has holds x is fields used below token less g
     jump_good front tail none none_too good formed =
         let rest = acts (Label (low + 1)) [] ∷ (more ++ tail) in
         subst (Good Before) (sym (append_assoc shared (acts (Jump (low + 1)) [] ∷ []) (front ++ rest)))
-        (shared_leads.good (acts (Jump (low + 1)) [] ∷ (front ++ rest))
+        (shared_lead.good (acts (Jump (low + 1)) [] ∷ (front ++ rest))
         (jumps Behind (low + 1) (front ++ rest)
         (stands_past Behind (low + 1) front rest none (
           subst IsSome (sym (found_here (low + 1) (more ++ tail))) refl,
@@ -357,10 +348,10 @@ fits_token_unique base bound outer has holds x is fields used below token less g
     by None begins =
         counted_fits base bound has holds x is fields used below (token ∷ after) outer goal low high more fits
         (shared ++ (acts (Jump (low + 1)) [] ∷ []))
-        (λ l. has_no_append l shared (acts (Jump (low + 1)) [] ∷ []) (shared_leads.no_label l) (refl, tt)) jump_good alone _
+        (λ l. has_no_append l shared (acts (Jump (low + 1)) [] ∷ []) (shared_lead.no_label l) (refl, tt)) jump_good alone _
         alone_leads Equal unique.0 unique.5
     by (Some made) begins =
         counted_fits base bound has holds x is fields used below (token ∷ after) outer goal low high more fits
         (alone ++ entry_of made)
         (λ l. has_no_append l alone (entry_of made) (alone_leads.no_label l) (refl, (refl, tt))) (entry_good made (begins made refl))
-        shared _ shared_leads NotEqual unique.0 unique.5
+        shared _ shared_lead NotEqual unique.0 unique.5

@@ -9,7 +9,7 @@ use Rattle.kk_counted.specs.Spending.{AreApart}
 use Rattle.rv_isa.specs.declared.asm.Action.TheVariants.{Label, Jump}
 use Rattle.rv_isa.specs.AsmCode.{Line}
 use Rattle.rv_isa.specs.AsmMachine.{is_label}
-use Rattle.rv_isa.specs.Frames.{Frame, put, found}
+use Rattle.rv_isa.specs.Frames.{Frame, found}
 use Rattle.cell_heap.specs.Blocks.{Cells}
 use Rattle.cell_runtime.specs.World.{World, with_cells}
 use Rattle.rv_lower.specs.Lines.{copies_to, acts}
@@ -18,10 +18,10 @@ use Rattle.rv_cells.specs.Layout.{words_in, header_of, first_field}
 use Rattle.rv_cells.specs.CountedCells.{AreFrom, Owner, in_hand, is_aside}
 use Rattle.rv_cells.specs.CellLines.{TokenUniqueLines}
 use Rattle.rv_cells.proofs.Runs.{turn_of, Runs, runs_none, runs_then}
-use Rattle.rv_cells.proofs.CellActions.{put_in, sets_runs, copy_runs, label_runs}
+use Rattle.rv_cells.proofs.CellActions.{put_in, copy_runs, label_runs}
 use Rattle.rv_cells.proofs.Spots.{AreSmall, Spot, Known, Here, saved}
 use Rattle.rv_cells.proofs.LineCosts.{most_moves, row_cost}
-use Rattle.rv_cells.proofs.Values.{among_none, has_other, list_grown}
+use Rattle.rv_cells.proofs.Values.{among_none, has_other}
 use Rattle.rv_cells.proofs.Rows.{IsReading}
 use Rattle.rv_cells.proofs.Openings.{opened_spot}
 use Rattle.rv_cells.proofs.CountOpenings as Opens
@@ -211,11 +211,7 @@ module _ (known : Known) (rest : List Line) (fs : List (Frame Line)) (s : Spot) 
       → dup_all (used_values used fields named.fields) (set_count named.at (suc n) s.heap) ≡ Some next
       → AreSmall (length (filter (is_among used) fields)) s.heap → FindsSecond → FindsBehind → Leaves rest (λ t. IsNull s t token)
   blanks n several given small finds finds_behind =
-      let tests = Opens.tests known o in
-      let done = Opens.lessens known o n several given small finds finds_behind (most_moves + 2) 1 (put token (Some 0) tests.cells)
-      (sets_runs known.target ((Opens.loads known o ++ Opens.lowers known o) ++ Opens.behind_shared known o into) tests fs s.world
-      0 token)
-      (has_other (Opens.here_tests known o).values token 0 (list_grown fields s.bound token spare)) in
+      let done = Opens.lessens known o n several given small finds finds_behind spare in
       let comes = done.3 in
       let cheap = comes.within in (
         done.0,
@@ -228,14 +224,14 @@ module _ (known : Known) (rest : List Line) (fs : List (Frame Line)) (s : Spot) 
           runs = comes.runs;
           here = comes.here;
           spared = λ z below apart none. comes.spared z below none
-              ∙ put_other token z 0 tests.cells (among_none token [] z apart).0 ∙ Opens.tests_spare known o z below;
+              ∙ put_other token z 0 s.frame.cells (among_none token [] z apart).0;
           left = refl {a = s.world.left};
           whole = comes.whole;
           function = comes.function;
           held = comes.held;
         },
         record {
-          value = comes.spared token low spare ∙ put_same token 0 tests.cells;
+          value = comes.spared token low spare ∙ put_same token 0 s.frame.cells;
           aside = done.4;
           was = done.5;
         },

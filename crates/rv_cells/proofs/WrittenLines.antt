@@ -205,28 +205,28 @@ walk_more {n} {index} {cell} {line} {a} {b} {c} temporary value xs less is from 
 -- ---- an opening by the count of a cell
 
 -- the way of a cell that has other references
-pub shared_written : {holds : ℕ → Bool} {x : ℕ} {fields used : List ℕ} {token : ℕ} (loads : List Line) {a b c d e : Lowering}
-    → Wrote (sets 0 token ∷ []) a b → Wrote loads b c → WroteLines (LowersCellCount c.base x) c d
+pub shared_written : {a b c d e : Lowering} (holds : ℕ → Bool) (x : ℕ) (fields used : List ℕ) (token : ℕ) (loads : List Line)
+    → Wrote loads a b → WroteLines (LowersCellCount b.base x) b c → Wrote (sets 0 token ∷ []) c d
     → Wrote (dups_lines holds (filter (is_among used) fields)) d e
     → WroteLines (WayLines false a.base holds x fields used token loads) a e
-shared_written {holds} {x} {fields} {used} {token} loads {a} {b} {c} {d} {e} began all less dups = record {
+shared_written {a} {b} {c} {d} {e} holds x fields used token loads all less null dups = record {
   lines = shared_lines holds fields used token loads less.lines;
-  wrote = wrote_then began (wrote_then all (wrote_then less.wrote dups));
-  are = (less.lines, subst (λ n. LowersCellCount n x less.lines) (all.base ∙ began.base) less.are, refl);
+  wrote = wrote_then all (wrote_then less.wrote (wrote_then null dups));
+  are = (less.lines, subst (λ n. LowersCellCount n x less.lines) all.base less.are, refl);
 }
 
 -- each way, by whether it is that of a cell that has no other reference
-pub alone_written : {holds : ℕ → Bool} {x : ℕ} {fields used : List ℕ} {token : ℕ} (loads : List Line) {a b : Lowering} (alone : Bool)
+pub alone_written : {a b : Lowering} (holds : ℕ → Bool) (x : ℕ) (fields used : List ℕ) (token : ℕ) (loads : List Line) (alone : Bool)
     → alone ≡ true → Wrote (alone_lines holds x fields used token loads) a b
     → WroteLines (WayLines alone a.base holds x fields used token loads) a b
-alone_written {holds} {x} {fields} {used} {token} loads {a} {b} alone is wrote =
+alone_written {a} {b} holds x fields used token loads alone is wrote =
     subst (λ (way : Bool). WroteLines (WayLines way a.base holds x fields used token loads) a b) (sym is)
     (record { lines = alone_lines holds x fields used token loads; wrote = wrote; are = refl })
 
-pub other_written : {holds : ℕ → Bool} {x : ℕ} {fields used : List ℕ} {token : ℕ} (loads : List Line) {a b : Lowering} (alone : Bool)
+pub other_written : {a b : Lowering} (holds : ℕ → Bool) (x : ℕ) (fields used : List ℕ) (token : ℕ) (loads : List Line) (alone : Bool)
     → alone ≡ false → WroteLines (WayLines false a.base holds x fields used token loads) a b
     → WroteLines (WayLines alone a.base holds x fields used token loads) a b
-other_written {holds} {x} {fields} {used} {token} loads {a} {b} alone is wrote =
+other_written {a} {b} holds x fields used token loads alone is wrote =
     subst (λ (way : Bool). WroteLines (WayLines way a.base holds x fields used token loads) a b) (sym is) wrote
 
 -- both ways, by which of them stands first

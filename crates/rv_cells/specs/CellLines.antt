@@ -127,11 +127,11 @@ abbrev pub alone_lines : (ℕ → Bool) → ℕ → List ℕ → List ℕ → �
 alone_lines holds x fields used token loads =
     loads ++ (drops_lines holds (filter (λ y. not (is_among used y)) fields) ++ (copies_to x token ∷ []))
 
--- The way of a cell that has other references: the token is null, the fields are loaded, the count is lowered, and the fields in use
+-- The way of a cell that has other references: the fields are loaded, the count is lowered, the token is null, and the fields in use
 -- get a reference more.
 abbrev pub shared_lines : (ℕ → Bool) → List ℕ → List ℕ → ℕ → List Line → List Line → List Line
 shared_lines holds fields used token loads lowers =
-    sets 0 token ∷ (loads ++ (lowers ++ dups_lines holds (filter (is_among used) fields)))
+    loads ++ (lowers ++ (sets 0 token ∷ dups_lines holds (filter (is_among used) fields)))
 
 -- The way of a shared cell stands first. So the other way, which is the common one, comes behind the opening without a jump. But where
 -- a construction that fills this token's cell stands behind the opening, whose variable is given, the other way stands first: it leaves

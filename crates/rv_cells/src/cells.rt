@@ -384,7 +384,8 @@ fn write_alone(
     lowering.write(&[copy(opening.cell, opening.token)])
 }
 
-/// The way of a cell that has other references: the token is null, and the count is lowered.
+/// The way of a cell that has other references: the count is lowered, and the token is null. It is set where the cell's own value is
+/// not read any more.
 fn write_shared(
     lowering: &mut Lowering,
     known: &Known<'_>,
@@ -394,9 +395,9 @@ fn write_shared(
         opening.now.fields.now opening.now.used.now opening.now.token (map short_line opening.now.loads.now))
         lowering.old lowering.new) }
 {
-    lowering.write(&[set(0, opening.token)])?;
     lowering.write(opening.loads)?;
     write_less(lowering, opening.cell)?;
+    lowering.write(&[set(0, opening.token)])?;
     write_dups(lowering, known, opening.fields, opening.used)
 }
 

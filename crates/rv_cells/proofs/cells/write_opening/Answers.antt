@@ -18,10 +18,10 @@ returns c =
     c.in_ok-write_count_test.ensures
     (subst (λ (alone : Bool). WroteLines (WayLines alone c.write_count_test.new.lowering.base (holds_known c.args.known.now)
     c.args.cell c.args.fields.now c.args.used.now c.in_ok-token.token (map short_line c.deref.result.now))
-    c.write_count_test.new.lowering c.write_way.new.lowering) c.is_some.ensures c.in_ok-write_way.ensures)
+    c.write_count_test.new.lowering c.write_way.new.lowering) c.is_some-enters.ensures c.in_ok-write_way.ensures)
     c.in_ok-write_leaving.ensures c.in_ok-write_label.ensures
     (subst (λ (alone : Bool). WroteLines (WayLines (not alone) c.write_label.new.lowering.base (holds_known c.args.known.now)
     c.args.cell c.args.fields.now c.args.used.now c.in_ok-token.token (map short_line c.deref.result.now))
-    c.write_label.new.lowering c.write_way-2.new.lowering) c.is_some.ensures c.in_ok-write_way-2.ensures)
+    c.write_label.new.lowering c.write_way-2.new.lowering) c.is_some-enters.ensures c.in_ok-write_way-2.ensures)
     last))
     c.write_label-2.ensures
