@@ -1,7 +1,7 @@
 -- The functions of the tests have marked variables.
-use Rattle.std.proofs.Common.{◌≡◌, ℕ, ◌==◌, ◌||◌, pos, Bool, true, false, not, List, [], ◌∷◌, ◌++◌, refl, sym, ap, ◌∙◌, subst}
+use Rattle.std.proofs.Common.{◌≡◌, ℕ, ◌==◌, ◌||◌, pos, Bool, true, false, List, [], ◌∷◌, ◌++◌, refl, sym, ap, ◌∙◌, subst}
 use Rattle.kk_syntax.specs.PositionsOf.{PositionTable}
-use Rattle.kk_syntax.specs.declared.positions.Ownership.TheVariants.{Owned, Lent}
+use Rattle.kk_syntax.specs.declared.positions.Ownership.TheVariants.{Owned}
 use Rattle.kk_syntax.specs.declared.operator.BinaryOperator.TheVariants.{Add}
 use Rattle.kk_syntax.specs.declared.program.Form.{Form}
 use Rattle.kk_syntax.specs.declared.program.Form.TheVariants.{Number, Binary, Construct, Call}
@@ -14,16 +14,13 @@ use Rattle.kk_counted.specs.Drafts.{Draft, begun, given, duplicated, dropped, un
 use Rattle.kk_counted.specs.Emitting.{BecomesMarked}
 use Rattle.kk_counted.specs.Marks.{CellMarks, HasMark, CanBeMarked}
 use Rattle.counted_tests.specs.CellTables.{table_of}
-use Rattle.counted_tests.specs.TwoRows.{behind_first, behind_nil, box_row, inner_rows}
+use Rattle.counted_tests.specs.TwoRows.{behind_first, box_row}
 
 -- a function of one parameter
 abbrev pub with_body : Counted → CountedFunction
 with_body body = record { parameters = 1; body = body }
 
--- the drafts that are begun of an owned pair, and of an owned box
-abbrev pub pair_begun : List ℕ → Draft
-pair_begun counts = begun ((Owned ∷ []) ∷ []) counts (table_of ((false ∷ true ∷ []) ∷ [])) 0
-
+-- the draft that is begun of an owned box
 abbrev pub box_begun : Draft
 box_begun = begun ((Owned ∷ []) ∷ []) (1 ∷ []) (table_of ((true ∷ []) ∷ [])) 0
 
@@ -131,38 +128,6 @@ again_marked = (
   },
 )
 
-pub same_marked : CanBeMarked (table_of ((true ∷ []) ∷ [])) 0
-    (with_body (if_unique 0 0 (1 ∷ []) (1 ∷ []) (compute 2 (Construct 0) (1 ∷ []) (give 2))))
-same_marked = (
-  λ x. true,
-  record {
-    parameters_marked = (refl, tt);
-    body_marked = ((refl, (refl, (refl, tt))), ((refl, tt), (((refl, tt), refl), (refl, refl))));
-  },
-)
-
--- A box is opened by its count, and by what was inside there is a branch, whose value a variable takes. The first row gives that.
-abbrev pub box_rows : List NodeTree → ℕ → Counted → CountedFunction
-box_rows decisions x row =
-    with_body (if_unique 0 0 (1 ∷ []) (1 ∷ []) (inside x (case 1 decisions (arm (give 1) (arm row no_arm))) (give x)))
-
-pub box_rows_marked : (decisions : List NodeTree) (x : ℕ) (row : Counted) → is_among (x ∷ 1 ∷ 0 ∷ []) x ≡ true
-    → HasMark (table_of ((true ∷ []) ∷ [])) (λ y. true) true (1 ∷ 0 ∷ []) true row
-    → CanBeMarked (table_of ((true ∷ []) ∷ [])) 0 (box_rows decisions x row)
-box_rows_marked decisions x row bound marked = (
-  λ y. true,
-  record {
-    parameters_marked = (refl, tt);
-    body_marked = ((refl, (refl, (refl, tt))), ((refl, ((refl, refl), (marked, tt))), (bound, refl)));
-  },
-)
-
--- the other row gives a box of what the function gives for that
-pub shift_marked : (decisions : List NodeTree) → CanBeMarked (table_of ((true ∷ []) ∷ [])) 0
-    (box_rows decisions 4 (compute 2 (Call 0) (1 ∷ []) (compute 3 (Construct 0) (2 ∷ []) (give 3))))
-shift_marked decisions =
-    box_rows_marked decisions 4 _ refl ((refl, tt), (((refl, tt), refl), ((refl, tt), (((refl, tt), refl), (refl, refl)))))
-
 -- by what was inside it gives that, or calls itself on it last
 pub innermost_marked : (decisions : List NodeTree) → CanBeMarked (table_of ((true ∷ []) ∷ [])) 0
     (with_body (if_unique 0 0 (1 ∷ []) (1 ∷ []) (case 1 decisions (arm (give 1) (arm (tail_call 0 (1 ∷ [])) no_arm)))))
@@ -189,17 +154,6 @@ two_marked decisions = (
     );
   },
 )
-
--- the other row has a branch, and calls the function on its value
-pub nested_marked : (decisions inner : List NodeTree) → CanBeMarked (table_of ((true ∷ []) ∷ [])) 0
-    (box_rows decisions 5
-    (if_unique 1 0 (2 ∷ []) (2 ∷ [])
-    (inside 3 (case 2 inner (arm (give 2) (arm (give 2) no_arm))) (compute 4 (Call 0) (3 ∷ []) (give 4)))))
-nested_marked decisions inner =
-    box_rows_marked decisions 5 _ refl (
-      (refl, (refl, (refl, tt))),
-      ((refl, ((refl, refl), ((refl, refl), tt))), ((refl, tt), (((refl, tt), refl), (refl, refl)))),
-    )
 
 -- ---- on trees and lists
 
@@ -248,30 +202,10 @@ increase_marked decisions =
       ),
     )
 
--- it builds a list of lists: of a list and of what it gives for its rest, or of the empty list alone
-pub tails_marked : (decisions : List NodeTree)
-    → CanBeMarked (table_of ((false ∷ true ∷ []) ∷ [] ∷ (true ∷ true ∷ []) ∷ [] ∷ [])) 0
-    (two_rows decisions 7 (compute 1 (Construct 3) [] (compute 2 (Construct 2) (0 ∷ 1 ∷ []) (give 2)))
-    (dup 0
-    (open_cell 0 0 (3 ∷ 4 ∷ []) (4 ∷ []) (compute 5 (Call 0) (4 ∷ []) (compute 6 (Construct 2) (0 ∷ 5 ∷ []) (give 6))))))
-tails_marked decisions =
-    rows_marked _ decisions 7 _ _ (λ x. not (x == 3)) refl refl refl
-    (tt, ((tt, refl), ((refl, (refl, tt)), (((refl, (refl, tt)), refl), (refl, refl))))) (
-      refl,
-      (
-        (refl, (refl, (refl, (refl, tt)))),
-        ((refl, tt), (((refl, tt), refl), ((refl, (refl, tt)), (((refl, (refl, tt)), refl), (refl, refl))))),
-      ),
-    )
-
 -- ---- where a branch is joined, and the function ends by its value
 
 abbrev pub EndsMarked : Draft → Type 0
 EndsMarked d = BecomesMarked (joined d) (finished (joined d) d.next)
-
-pub shift_ends : (d : Draft)
-    → d ≡ ended_by_value (computed (computed box_row (Call 0) (1 ∷ []) (1 ∷ [])) (Construct 0) (2 ∷ []) (2 ∷ [])) 3 → EndsMarked d
-shift_ends d is = subst EndsMarked (sym is) (λ going. shift_marked truth_decisions)
 
 pub innermost_ends : (d : Draft) → d ≡ ended_by_call box_row 0 (1 ∷ []) → EndsMarked d
 innermost_ends d is = subst EndsMarked (sym is) (λ going. innermost_marked truth_decisions)
@@ -339,24 +273,3 @@ increase_ends row built d first is steps last =
   where
     whole : built ≡ increase_row row
     whole = is ∙ ap (λ z. record row { steps = z; owed = 6 ∷ []; next = 7 }) steps
-
-pub tails_ends : (d : Draft)
-    → d
-    ≡ ended_by_value
-    (computed
-    (computed
-    (unpacked
-    (duplicated
-    (behind_nil
-    (given (begun ((Owned ∷ []) ∷ []) (2 ∷ 0 ∷ 2 ∷ 0 ∷ []) (table_of ((false ∷ true ∷ []) ∷ [] ∷ (true ∷ true ∷ []) ∷ [] ∷ [])) 0) 0))
-    0)
-    false 0 0 2)
-    (Call 0) (4 ∷ []) (4 ∷ []))
-    (Construct 2) (0 ∷ 5 ∷ []) (0 ∷ 5 ∷ []))
-    6
-    → EndsMarked d
-tails_ends d is = subst EndsMarked (sym is) (λ going. tails_marked truth_decisions)
-
-pub nested_ends : (d : Draft)
-    → d ≡ ended_by_value (computed (joined (inner_rows (unpacked box_row true 1 0 1))) (Call 0) (3 ∷ []) (3 ∷ [])) 4 → EndsMarked d
-nested_ends d is = subst EndsMarked (sym is) (λ going. nested_marked truth_decisions truth_decisions)

@@ -1,5 +1,5 @@
 -- What the types tell of cells in the programs of these tests.
-use Rattle.std.specs.Prelude.{◌≡◌, ℕ, Bool, true, List, [], ◌∷◌, map, length}
+use Rattle.std.specs.Prelude.{◌≡◌, Bool, true, List, [], ◌∷◌, map, length}
 use Rattle.kk_syntax.specs.declared.positions.Ownership.{Ownership}
 use Rattle.kk_core.specs.declared.shape.ConstructorShape.{ConstructorShape}
 use Rattle.kk_counted.specs.declared.shape.Shape.{Shape}

@@ -1,24 +1,16 @@
 -- What is written of branches of two rows, the first of which gives a value.
 use Rattle.std.specs.Prelude.{ℕ, true, false, [], ◌∷◌}
 use Rattle.kk_syntax.specs.declared.positions.Ownership.TheVariants.{Owned}
-use Rattle.kk_syntax.specs.declared.program.Form.TheVariants.{Construct}
 use Rattle.kk_core.specs.Truths.{truth_decisions}
 use Rattle.kk_counted.specs.TokenedCodes.{Tokened}
 use Rattle.kk_counted.specs.TokenedForms.{TokenedMove}
-use Rattle.kk_counted.specs.Drafts.{Draft, begun, given, unpacked, computed, forked, entered, ended_by_value}
+use Rattle.kk_counted.specs.Drafts.{Draft, begun, given, unpacked, forked, entered, ended_by_value}
 use Rattle.kk_counted.specs.TokenDrafts.{TokenDraft, no_tokens, gains, spends, opens_with, tokens_forked, tokens_entered, tokens_ended_in}
 use Rattle.counted_tests.specs.CellTables.{table_of}
 
 -- A branch on a variable, whose rows are to spend one: the first row has given that, and the other is entered.
 abbrev pub behind_first : Draft → ℕ → ℕ → Draft
 behind_first d on each = entered (ended_by_value (entered (forked d on truth_decisions (each ∷ []) 2)) each)
-
--- The same where the rows are those of a list, and the first one has given a list of lists: that of the list and of no other.
-abbrev pub behind_nil : Draft → Draft
-behind_nil d =
-    entered
-    (ended_by_value
-    (computed (computed (entered (forked d 0 truth_decisions (0 ∷ []) 2)) (Construct 3) [] []) (Construct 2) (0 ∷ 1 ∷ []) (0 ∷ 1 ∷ [])) 2)
 
 -- the tokens of such a branch where its first row is entered
 abbrev pub tokens_first : TokenDraft → ℕ → TokenDraft
@@ -37,16 +29,3 @@ abbrev pub tokens_box_row : TokenDraft
 tokens_box_row =
     tokens_entered
     (tokens_given (spends (tokens_first (gains no_tokens (opens_with true 0 0 (1 ∷ []) (1 ∷ []) 0)) 1) (TokenedMove.frees 0) 0) 1)
-
--- A branch in that row, both rows of which have given the variable 2. The first one has freed both tokens, and the other one the
--- older of them.
-abbrev pub inner_rows : Draft → Draft
-inner_rows d = ended_by_value (behind_first d 2 2) 2
-
-abbrev pub tokens_inner_rows : TokenDraft → TokenDraft
-tokens_inner_rows t =
-    tokens_given
-    (spends
-    (tokens_entered (tokens_given (spends (spends (tokens_first t 2) (TokenedMove.frees 1) 1) (TokenedMove.frees 0) 0) 2))
-    (TokenedMove.frees 0) 0)
-    2

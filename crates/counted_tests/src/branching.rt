@@ -1,12 +1,12 @@
-//! Functions with branches: in an arm a token is held, filled, freed or passed on, and behind it all stand in the same slots.
+//! Functions with branches: in an arm a token is freed or passed on, and behind the arms all tokens stand in the same slots.
 
 ghost use Rattle.std.specs.Prelude.{◌≡◌, ◌∷◌, [], true, false, IfOk, OnOk, OnErr};
 ghost use Rattle.kk_syntax.specs.declared.positions.Ownership.TheVariants.{Owned};
 ghost use Rattle.kk_counted.specs.CountedForms.{decisions_of};
 ghost use Rattle.kk_counted.specs.TokenedCodes.{Tokened};
 ghost use Rattle.kk_counted.specs.TokenedForms.{TokenedMove};
-ghost use Rattle.kk_counted.specs.Drafts.{begun, given, unpacked, forked, computed, outside, ended_by_value, ended_by_call, Writes, Owns};
-ghost use Rattle.kk_counted.specs.TokenDrafts.{no_tokens, adds, gains, spends, under_holds, opens_with, fills_with, tokens_forked, tokens_ended_in};
+ghost use Rattle.kk_counted.specs.Drafts.{begun, given, unpacked, forked, outside, ended_by_value, ended_by_call, Writes, Owns};
+ghost use Rattle.kk_counted.specs.TokenDrafts.{no_tokens, gains, spends, opens_with, tokens_forked, tokens_ended_in};
 ghost use Rattle.kk_counted.specs.TokenEmissions.{counted_of, tokens_of};
 ghost use Rattle.kk_counted.specs.TokenEmitting.{HasSpare, CanEnd, IsTokenedFunctionOf};
 ghost use Rattle.kk_counted.specs.Works.{left_in};
@@ -15,11 +15,9 @@ ghost use Rattle.counted_tests.specs.ArmDebts.{IsArmOf};
 ghost use Rattle.counted_tests.specs.TwoRows.{box_row, tokens_box_row};
 
 use crate::ending::{ended, finished, freed_and_finished, given_with, given_without};
-use crate::expecting::{
-    calls, computes, fills, opens, opens_by_count, opens_into, rows_inside, rows_of,
-};
+use crate::expecting::{calls, opens, opens_by_count, opens_into, rows_inside, rows_of};
 use crate::losing::{abandoned, lose, lose_all, lose_arms, lose_token};
-use crate::rebuilding::{boxed_again, opened_box};
+use crate::rebuilding::opened_box;
 use crate::shapes::shape_of_boxes;
 use kk_base::NoMemory;
 use kk_core::{Answer, Decisions, Edge, Node, truth_decisions};
@@ -27,7 +25,6 @@ use kk_counted::{
     Arms, Debts, Owed, Shape, Spare, TokenArmEnd, TokenEmitter, TokenedFun, TokenedLast,
     TokenedStep,
 };
-use kk_syntax::Form;
 use std::alloc::Global;
 
 /// Opens the parameter, a box, by its count, and begins a branch on what was inside. Each arm is to spend that and the token.
@@ -69,7 +66,7 @@ fn freed(emitter: &mut TokenEmitter<'_>, mut debts: Debts, arms: Arms) -> Result
 
 /// Begins a branch on what is inside of the parameter, a box, which is opened by its count. The first of two rows frees the cell
 /// and gives that. The other row is entered, which is to spend both.
-pub fn freed_first(alloc: Global, emitter: &mut TokenEmitter<'_>) -> Result<(Debts, Arms), NoMemory>
+fn freed_first(alloc: Global, emitter: &mut TokenEmitter<'_>) -> Result<(Debts, Arms), NoMemory>
     requires counted { counted_of emitter.old ≡ begun ((Owned ∷ []) ∷ []) (1 ∷ []) (table_of ((true ∷ []) ∷ [])) 0 }
     requires tokens { tokens_of emitter.old ≡ no_tokens }
     ensures ok { OnOk result (counted_of emitter.new ≡ box_row) }
@@ -89,71 +86,6 @@ pub fn freed_first(alloc: Global, emitter: &mut TokenEmitter<'_>) -> Result<(Deb
         unreachable!();
     };
     Ok((debts, arms))
-}
-
-/// An arm that holds its token while the function calls itself on its reference, and gives a box of the value in the cell.
-fn held_and_filled(
-    alloc: Global,
-    emitter: &mut TokenEmitter<'_>,
-    debts: Debts,
-    arms: Arms,
-) -> Result<Arms, NoMemory>
-    requires arm { IsArmOf 1 (0 ∷ []) (counted_of emitter.old) (tokens_of emitter.old) debts }
-    requires positions { (counted_of emitter.old).positions ≡ (Owned ∷ []) ∷ [] }
-    requires fields { (counted_of emitter.old).field_counts ≡ 1 ∷ [] }
-    requires next { (counted_of emitter.old).failed ≡ false → (counted_of emitter.old).next ≡ 2 }
-    requires can { (counted_of emitter.old).failed ≡ false → CanEnd (spends (tokens_of emitter.old) (TokenedMove.frees 0) 0) false (tokens_of emitter.old).splits }
-    ensures going { OnOk result ((counted_of emitter.old).failed ≡ false) }
-    ensures ok { OnOk result (counted_of emitter.new ≡ ended_by_value (computed (computed (counted_of emitter.old) (Form.Call 0) (1 ∷ []) (1 ∷ [])) (Form.Construct 0) (2 ∷ []) (2 ∷ [])) 3) }
-    ensures tokens { OnOk result (tokens_of emitter.new ≡ tokens_ended_in (spends (adds (tokens_of emitter.old) (under_holds (0 ∷ []) (TokenedMove.computes 2 (Form.Call 0) (1 ∷ []) (0 ∷ [])))) (fills_with 3 0 0 (2 ∷ []) [] []) 0) (Tokened.give 3) false (tokens_of emitter.old).splits) }
-    ensures same { IfOk result (λ left. left ≡ arms) }
-{
-    match boxed_again(alloc, emitter, debts) {
-        Ok(built) => ended(emitter, TokenArmEnd::Value(built, Debts::new(alloc)), arms),
-        Err(_) => Err(lose_arms(emitter, arms)),
-    }
-}
-
-/// The function that opens its box, and by what is inside gives that, or what it gives for that itself in a box.
-fn shift(alloc: Global, shape: &Shape) -> Result<TokenedFun, NoMemory>
-    requires { IsShapeOf Owned ((true ∷ []) ∷ []) shape.now }
-    ensures { IfOk result (λ function. IsTokenedFunctionOf ((Owned ∷ []) ∷ []) 0 function) }
-{
-    let mut emitter = TokenEmitter::start(alloc, shape, 0)?;
-    let (debts, arms) = freed_first(alloc, &mut emitter)?;
-    let arms = held_and_filled(alloc, &mut emitter, debts, arms)?;
-    finished(emitter, arms)
-}
-
-/// Whether a function opens its box by its count and ends by a branch on what was inside, whose first row frees the cell and gives
-/// that.
-fn frees_first(function: &TokenedFun) -> bool {
-    let steps = &function.body.steps;
-    let rows = rows_of(&function.body.last, 1);
-    steps.len() == 1
-        && opens_by_count(&steps[0], &[1], &[1])
-        && rows.len() == 2
-        && rows[0].steps.len() == 1
-        && matches!(rows[0].steps[0], TokenedStep::Free { slot: 0 })
-        && matches!(rows[0].last, TokenedLast::Return(1))
-}
-
-/// It opens the cell. Where it gives what is inside it frees the cell, and else it holds it and builds one in its place. The branch
-/// ends the function.
-#[test]
-fn a_token_is_freed_or_held_by_rows(rt: HostRuntime) -> Result<(), NoMemory> {
-    let shape = shape_of_boxes(rt.alloc())?;
-    let function = shift(rt.alloc(), &shape)?;
-    assert!(rt; frees_first(&function));
-    let rows = rows_of(&function.body.last, 1);
-    assert_eq!(rt; rows.len(), 2);
-    assert_eq!(rt; rows[1].steps.len(), 4);
-    assert!(rt; matches!(rows[1].steps[0], TokenedStep::Hold { slot: 0 }));
-    assert!(rt; computes(&rows[1].steps[1], 2, Form::Call(0), &[1], &[0]));
-    assert!(rt; matches!(rows[1].steps[2], TokenedStep::Unhold { slot: 0 }));
-    assert!(rt; fills(&rows[1].steps[3], 3, 2, &[], &[]));
-    assert!(rt; matches!(rows[1].last, TokenedLast::Return(3)));
-    Ok(())
 }
 
 /// An arm that frees its token, and ends by a tail call of the function on its reference.
@@ -227,6 +159,19 @@ fn innermost(alloc: Global, shape: &Shape) -> Result<TokenedFun, NoMemory>
     finished(emitter, arms)
 }
 
+/// Whether a function opens its box by its count and ends by a branch on what was inside, whose first row frees the cell and gives
+/// that.
+fn frees_first(function: &TokenedFun) -> bool {
+    let steps = &function.body.steps;
+    let rows = rows_of(&function.body.last, 1);
+    steps.len() == 1
+        && opens_by_count(&steps[0], &[1], &[1])
+        && rows.len() == 2
+        && rows[0].steps.len() == 1
+        && matches!(rows[0].steps[0], TokenedStep::Free { slot: 0 })
+        && matches!(rows[0].last, TokenedLast::Return(1))
+}
+
 /// Each row frees the cell. The branch ends the function: by what is inside, or by a tail call on it.
 #[test]
 fn a_row_ends_by_a_tail_call(rt: HostRuntime) -> Result<(), NoMemory> {
@@ -295,7 +240,7 @@ fn opened_twice(emitter: &mut TokenEmitter<'_>, tests: &Decisions) -> Result<Arm
 }
 
 /// Puts two tokens behind some references.
-pub fn put_both(
+fn put_both(
     emitter: &mut TokenEmitter<'_>,
     debts: &mut Debts,
     first: Spare,
@@ -341,7 +286,7 @@ fn all_taken(debts: &mut Debts) -> (Owed, Spare, Spare)
 }
 
 /// An arm that frees both of its tokens, and gives its reference.
-pub fn both_freed(
+fn both_freed(
     emitter: &mut TokenEmitter<'_>,
     mut debts: Debts,
     arms: Arms,
@@ -366,7 +311,7 @@ pub fn both_freed(
 }
 
 /// An arm that frees the older of its two tokens, and gives its reference.
-pub fn older_freed(
+fn older_freed(
     emitter: &mut TokenEmitter<'_>,
     mut debts: Debts,
     arms: Arms,

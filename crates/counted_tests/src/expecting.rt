@@ -40,12 +40,12 @@ pub fn reads(step: &TokenedStep, variable: u32, fields: &[u32]) -> bool {
 /// How a step opens a cell: by its count or not, of which variable, into which fields, which of them are used, and in which slot
 /// the token stands.
 #[derive(Drop)]
-pub struct Opening<'a> {
-    pub by_count: bool,
-    pub variable: u32,
-    pub fields: &'a [u32],
-    pub used: &'a [u32],
-    pub slot: u32,
+struct Opening<'a> {
+    by_count: bool,
+    variable: u32,
+    fields: &'a [u32],
+    used: &'a [u32],
+    slot: u32,
 }
 
 /// How a step opens a cell, by the first constructor.
@@ -76,7 +76,7 @@ fn opening_of(step: &TokenedStep) -> Option<Opening<'_>> {
 }
 
 /// Whether a cell is opened so.
-pub fn opens_as(step: &TokenedStep, expected: &Opening<'_>) -> bool {
+fn opens_as(step: &TokenedStep, expected: &Opening<'_>) -> bool {
     match opening_of(step) {
         Some(found) => {
             found.by_count == expected.by_count

@@ -12,12 +12,8 @@ mod lists;
 #[cfg(test)]
 mod losing;
 #[cfg(test)]
-mod nested;
-#[cfg(test)]
 mod rebuilding;
 #[cfg(test)]
 mod rows;
 #[cfg(test)]
 mod shapes;
-#[cfg(test)]
-mod tails;

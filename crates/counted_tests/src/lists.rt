@@ -133,7 +133,7 @@ fn a_second_field_is_left(rt: HostRuntime) -> Result<(), NoMemory> {
 }
 
 /// Builds a new cell of a constructor with two fields.
-pub fn constructed(
+fn constructed(
     alloc: Global,
     emitter: &mut TokenEmitter<'_>,
     constructor: u32,

@@ -1,4 +1,4 @@
-//! Functions that open a cell and build one in its place: one calls itself while the token is held, one leaves a field.
+//! A function that opens a cell, calls itself while the token is held, and builds a cell in its place.
 
 ghost use Rattle.std.specs.Prelude.{◌≡◌, ◌∷◌, [], true, false, IfOk, OnOk, OnErr};
 ghost use Rattle.kk_syntax.specs.declared.positions.Ownership.TheVariants.{Owned};
@@ -99,7 +99,7 @@ fn boxed(emitter: &mut TokenEmitter<'_>, mut debts: Debts, field: Owed) -> Resul
 }
 
 /// Holds the only token while the function calls itself on the only reference, and builds a box of the value in the cell.
-pub fn boxed_again(
+fn boxed_again(
     alloc: Global,
     emitter: &mut TokenEmitter<'_>,
     mut debts: Debts,
@@ -153,43 +153,5 @@ fn a_cell_is_held_and_filled(rt: HostRuntime) -> Result<(), NoMemory> {
     assert!(rt; matches!(steps[2], TokenedStep::Let { .. }));
     assert!(rt; matches!(steps[3], TokenedStep::Unhold { slot: 0 }));
     assert!(rt; matches!(steps[4], TokenedStep::Fill { slot: 0, .. }));
-    Ok(())
-}
-
-/// The function `fun same(b: box): box { match b { Box(inner) -> Box(inner) } }`. It leaves the field that its cell has already.
-fn same(alloc: Global, shape: &Shape) -> Result<TokenedFun, NoMemory>
-    requires { IsShapeOf Owned ((true ∷ []) ∷ []) shape.now }
-    ensures { IfOk result (λ function. IsTokenedFunctionOf (positions_in shape.now.instances.items) 0 function) }
-{
-    let mut emitter = TokenEmitter::start(alloc, shape, 0)?;
-    let mut debts = opened_box(&mut emitter)?;
-    let Some(spare) = debts.take_spare() else {
-        unreachable!();
-    };
-    let built = match emitter.construct_over(spare, 0, 1, debts) {
-        Ok(built) => built,
-        Err(kept) => return Err(abandoned(&mut emitter, kept)),
-    };
-    completed(emitter, built)
-}
-
-/// Whether a step builds a cell in that of the first token, and leaves its first field alone.
-fn leaves_the_first_field(step: &TokenedStep) -> bool {
-    match step {
-        TokenedStep::Fill { slot, kept, .. } => {
-            *slot == 0 && kept.len() == 1 && kept.first() == Some(&0)
-        }
-        _ => false,
-    }
-}
-
-/// It opens the cell, and builds one in its place that has the field already.
-#[test]
-fn a_field_is_left(rt: HostRuntime) -> Result<(), NoMemory> {
-    let shape = shape_of_boxes(rt.alloc())?;
-    let function = same(rt.alloc(), &shape)?;
-    let steps = &function.body.steps;
-    assert_eq!(rt; steps.len(), 2);
-    assert!(rt; leaves_the_first_field(&steps[1]));
     Ok(())
 }

@@ -27,7 +27,7 @@ use kk_syntax::{BinaryOperator, Form};
 use std::alloc::Global;
 
 /// Begins a branch on the parameter. Each arm is to spend that, and no token.
-pub fn matched(
+fn matched(
     alloc: Global,
     emitter: &mut TokenEmitter<'_>,
     tests: &Decisions,

@@ -80,36 +80,3 @@ pub fn shape_of_rows(alloc: Global, first_has_cells: bool) -> Result<Shape, NoMe
     };
     of_one_function(alloc, Ownership::Owned, vec![in alloc; cons, nil]?)
 }
-
-/// The parameter, which is owned, is a list of numbers, and the result is a list of such lists. Each of the two types has a
-/// constructor with two fields, the second one of that type, and one without fields.
-pub fn shape_of_lists(alloc: Global) -> Result<Shape, NoMemory>
-    ensures { IfOk result (λ shape. IsShapeOf Owned ((false ∷ true ∷ []) ∷ [] ∷ (true ∷ true ∷ []) ∷ [] ∷ []) shape) }
-{
-    let cons = ConstructorShape {
-        of_type: 0,
-        tag: 0,
-        has_cells: true,
-        fields: vec![in alloc; false, true]?,
-    };
-    let nil = ConstructorShape {
-        of_type: 0,
-        tag: 1,
-        has_cells: true,
-        fields: Vec::new(alloc),
-    };
-    let outer_cons = ConstructorShape {
-        of_type: 1,
-        tag: 0,
-        has_cells: true,
-        fields: vec![in alloc; true, true]?,
-    };
-    let outer_nil = ConstructorShape {
-        of_type: 1,
-        tag: 1,
-        has_cells: true,
-        fields: Vec::new(alloc),
-    };
-    let constructors = vec![in alloc; cons, nil, outer_cons, outer_nil]?;
-    of_one_function(alloc, Ownership::Owned, constructors)
-}
