@@ -1,2 +1,1 @@
-mod FusedFunction
 mod HandRuns

@@ -25,11 +25,11 @@ pub(crate) const NONE: Refused = Refused {
 /// The devices of a command.
 #[derive(Drop)]
 pub(crate) struct Devices {
-    pub(crate) files: MemStore,
-    pub(crate) input: MemSource,
+    files: MemStore,
+    input: MemSource,
     pub(crate) out: MemSink,
     pub(crate) err: MemSink,
-    pub(crate) image: Bytes,
+    image: Bytes,
 }
 
 impl Devices {

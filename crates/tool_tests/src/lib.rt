@@ -1,5 +1,5 @@
-//! Tests of the program over devices in memory, of the layers that `build` goes through, of the tokens of compiled programs, and of
-//! the adapters over real files: tests alone.
+//! Tests of the program over devices in memory, of the layers that `build` goes through, of the cells and the tokens of an image
+//! beside those of a slow machine, and of the adapters over real files: tests alone.
 #![tactic(auto)]
 
 #[cfg(test)]
@@ -8,8 +8,6 @@ mod adapters;
 mod commands;
 #[cfg(test)]
 mod devices;
-#[cfg(test)]
-mod fusion;
 #[cfg(test)]
 mod hand_code;
 #[cfg(test)]
@@ -22,7 +20,5 @@ mod sides;
 mod token_heap;
 #[cfg(test)]
 mod token_machine;
-#[cfg(test)]
-mod tokens;
 #[cfg(test)]
 mod walk;

@@ -1,15 +1,15 @@
 //! An image goes as the slow machine does: at each form it has put the same bytes, and has the same free, held and counted cells.
 
 use crate::hand_code::{hand_file, hand_program};
-use crate::layers::{DEPTH, HELD, REVERSE, SHARED_PAIR, with_increment};
-use crate::token_heap::Value;
-use crate::token_machine::{End, TokenMachine};
-use crate::tokens::compiled;
+use crate::layers::{REVERSE, with_lists};
+use crate::token_heap::{Cell, Value};
+use crate::token_machine::{ENDED, HEAP_FULL, STACK_FULL, TokenMachine};
 use crate::walk::Walk;
 use kk_base::{Bytes, GREATEST_CELLS, GREATEST_DEPTH};
 use kk_build::build;
 use kk_counted::Tokened;
-use kk_syntax::Accepted;
+use kk_front::{accepted_programs_are_typed, read};
+use kk_middle::compile;
 use rv_sim::Halt;
 use std::alloc::Global;
 use std::process::Abort;
@@ -21,6 +21,32 @@ struct Row {
     cells: u32,
     depth: u32,
 }
+
+/// The text of examples/shared-pair.kk.
+const SHARED_PAIR: &str = with_lists!(
+    "type pair { Pair(fst: list<int32>, snd: list<int32>) }
+fun main()
+  val s = Cons(1, Nil)
+  match Pair(s, s)
+    Pair(a, b) -> println(len(a) + len(b))
+"
+);
+
+/// The cells of the list are held as tokens while `summed` goes down it.
+const HELD: &str = "type list<a> { Nil; Cons(head: a, tail: list<a>) }
+fun build(n: int32): list<int32>
+  if n == 0 then Nil else Cons(n, build(n - 1))
+fun sum(xs: list<int32>): int32
+  match xs
+    Nil -> 0
+    Cons(x, xx) -> x + sum(xx)
+fun summed(xs: list<int32>): list<int32>
+  match xs
+    Cons(x, xx) -> Cons(x + sum(summed(xx)), Nil)
+    Nil -> Cons(1, Nil)
+fun main()
+  println(sum(summed(build(3))))
+";
 
 /// A tree that is shared: `insert` copies a way of it, and fills the way again where no other reference is left.
 const TREE: &str = "type tree { Leaf; Node(left: tree, value: int32, right: tree) }
@@ -88,8 +114,14 @@ fun main()
 ";
 
 /// Lists that are shared and lists that are not are incremented, and one is put before another.
-const INCREMENT: &str = with_increment!(
-    "fun append(xs: list<int32>, ys: list<int32>): list<int32>
+const INCREMENT: &str = "type list<a> { Nil; Cons(head: a, tail: list<a>) }
+fun build(n: int32): list<int32>
+  if n == 0 then Nil else Cons(n, build(n - 1))
+fun inc(xs: list<int32>): list<int32>
+  match xs
+    Nil -> Nil
+    Cons(x, xx) -> Cons(x + 1, inc(xx))
+fun append(xs: list<int32>, ys: list<int32>): list<int32>
   match xs
     Nil -> ys
     Cons(x, xx) -> Cons(x, append(xx, ys))
@@ -102,8 +134,7 @@ fun main()
   val ys = append(inc(xs), xs)
   println(sum(inc(ys)))
   println(sum(inc(append(xs, xs))))
-"
-);
+";
 
 /// A field stays as it is, and a tree is mirrored in its own cells. Its leaves are shared.
 const MIRROR: &str = "type tree { Leaf(value: int32); Node(left: tree, right: tree) }
@@ -125,16 +156,6 @@ fun main()
   val t = full(2, Leaf(3))
   match second(Both(t, Node(t, Leaf(1))))
     Both(x, y) -> { println(sum(x)); println(sum(y)) }
-";
-
-/// All of a long list is dropped at once, but for its first cell.
-const LONG: &str = "type list<a> { Nil; Cons(head: a, tail: list<a>) }
-fun build(n: int32, xs: list<int32>): list<int32>
-  if n == 0 then xs else build(n - 1, Cons(n, xs))
-fun main()
-  match build(60000, Nil)
-    Cons(x, _) -> println(x)
-    Nil -> println(0)
 ";
 
 /// Behind the block of the match three tokens stand in the same slots, of which one is null where `One` was opened.
@@ -205,37 +226,20 @@ const ROWS: [Row; 10] = [
     },
 ];
 
-/// The code of a text with its tokens, and the text's instances.
-#[derive(Drop)]
-struct Compiled {
-    text: &'static str,
-    accepted: Accepted,
-    tokened: Tokened,
-}
-
-fn compile_text(alloc: Global, text: &'static str) -> Result<Compiled, Fail> {
-    match compiled(alloc, text)? {
-        Some((accepted, tokened)) => Ok(Compiled {
-            text,
-            accepted,
-            tokened,
-        }),
-        None => Err(Fail::new("the text is refused")),
-    }
-}
-
-/// How an image halts at an end.
-fn halt_of(end: End) -> Halt {
-    match end {
-        End::Ended => Halt::Exit(0),
-        End::HeapFull => Halt::Exit(101),
-        End::StackFull => Halt::Exit(102),
-    }
+/// The code of a text with its tokens.
+fn compiled(alloc: Global, text: &str) -> Result<Tokened, Fail> {
+    let accepted = match read(alloc, text.as_bytes()) {
+        Ok(accepted) => accepted,
+        Err(_) => return Err(Fail::new("the text is refused")),
+    };
+    accepted_programs_are_typed();
+    let tokened = compile(alloc, &accepted)?;
+    Ok(tokened)
 }
 
 /// The file of the image of a text.
 fn file_of(alloc: Global, text: &str, cells: u32, depth: u32) -> Result<Bytes, Fail> {
-    if cells > GREATEST_CELLS || depth == 0 || depth > GREATEST_DEPTH {
+    if (cells > GREATEST_CELLS) | (depth == 0) | (depth > GREATEST_DEPTH) {
         return Err(Fail::new("no image has such sizes"));
     }
     match build(alloc, text.as_bytes(), cells, depth) {
@@ -244,33 +248,38 @@ fn file_of(alloc: Global, text: &str, cells: u32, depth: u32) -> Result<Bytes, F
     }
 }
 
+/// The slow machine of a program, and an image beside it, both at their start.
+fn started<'a>(
+    alloc: Global,
+    tokened: &'a Tokened,
+    file: &Bytes,
+    cells: u32,
+    depth: u32,
+) -> Result<(TokenMachine<'a>, Walk<'a>), Fail> {
+    let slow = TokenMachine::new(alloc, tokened, cells, depth)?;
+    let shapes = tokened.shape.constructors();
+    let walk = Walk::new(alloc, shapes, file.as_slice(), cells, depth)?;
+    Ok((slow, walk))
+}
+
 /// How a text ends with so many cells and open calls, and how many cells are counted then. The image and the slow machine have to
-/// agree: at each form too, or at the end alone. Forms at which they were compared are added.
+/// agree, at each form too. Forms at which they were compared are added.
 fn check_same(
     rt: &impl Abort,
     alloc: Global,
-    compiled: &Compiled,
+    text: &str,
+    tokened: &Tokened,
     (cells, depth): (u32, u32),
-    forms: Option<&mut Vec<&'static str>>,
-) -> Result<(End, usize), Fail> {
-    let text = compiled.text;
-    let texts = &compiled.accepted.instances.texts;
-    let mut slow = TokenMachine::new(alloc, &compiled.tokened, texts, cells, depth)?;
+    forms: &mut Vec<&'static str>,
+) -> Result<(Halt, usize), Fail> {
     let file = file_of(alloc, text, cells, depth)?;
-    let shapes = compiled.tokened.shape.constructors();
-    let mut walk = Walk::new(alloc, shapes, file.as_slice(), cells, depth)?;
-    let (end, halt) = match forms {
-        Some(forms) => {
-            let ends = walk.follow(&mut slow)?;
-            forms.extend_from_slice(&walk.forms)?;
-            ends
-        }
-        None => walk.run(&mut slow)?,
-    };
-    assert_eq!(rt; halt, halt_of(end), "{cells} cells, depth {depth}: {text}");
-    let is_like = walk.is_like(&slow)?;
-    assert!(rt; is_like, "{cells} cells, depth {depth}: {text}");
-    Ok((end, walk.counted(&slow)?.unwrap_or(0)))
+    let (mut slow, mut walk) = started(alloc, tokened, &file, cells, depth)?;
+    let (end, halt) = walk.follow(&mut slow, forms)?;
+    assert_eq!(rt; halt, end, "{cells} cells, depth {depth}: {text}");
+    match walk.counted(&slow)? {
+        Some(counted) => Ok((end, counted)),
+        None => Err(Fail::new(format_args!("other cells at the end of {text}"))),
+    }
 }
 
 /// With fewer cells the heap is full, and each of them is counted. With fewer open calls the stack is full. At the end of a run no
@@ -281,29 +290,22 @@ fn check_row(
     row: &Row,
     forms: &mut Vec<&'static str>,
 ) -> Result<(), Fail> {
-    let text = row.text;
-    let compiled = compile_text(alloc, text)?;
+    let tokened = compiled(alloc, row.text)?;
     for cells in 0..row.cells {
-        let sizes = (cells, row.depth);
-        let (full, counted) = check_same(rt, alloc, &compiled, sizes, Some(forms))?;
-        assert!(rt;
-            full == End::HeapFull && counted == cells as usize,
-            "{cells} cells of {text}"
-        );
+        let ends = check_same(rt, alloc, row.text, &tokened, (cells, row.depth), forms)?;
+        assert_eq!(rt; ends, (HEAP_FULL, cells as usize));
     }
     for depth in 1..row.depth {
-        let sizes = (row.cells, depth);
-        let (full, _) = check_same(rt, alloc, &compiled, sizes, Some(forms))?;
-        assert!(rt; full == End::StackFull, "depth {depth} of {text}");
+        let (end, _) = check_same(rt, alloc, row.text, &tokened, (row.cells, depth), forms)?;
+        assert_eq!(rt; end, STACK_FULL);
     }
-    let sizes = (row.cells, row.depth);
-    let (end, left) = check_same(rt, alloc, &compiled, sizes, Some(forms))?;
-    assert!(rt; end == End::Ended && left == 0, "{text}");
+    let ends = check_same(rt, alloc, row.text, &tokened, (row.cells, row.depth), forms)?;
+    assert_eq!(rt; ends, (ENDED, 0));
     Ok(())
 }
 
 /// The forms of compiled code. Each occurs in a run.
-const FORMS: [&str; 17] = [
+const FORMS: [&str; 18] = [
     "Let",
     "Call",
     "Inside",
@@ -312,6 +314,7 @@ const FORMS: [&str; 17] = [
     "Dup",
     "Drop",
     "Fill",
+    "Fill that keeps fields",
     "Fill of null",
     "Free",
     "Null",
@@ -323,15 +326,20 @@ const FORMS: [&str; 17] = [
     "Case",
 ];
 
+/// Each of the forms has to be among those that were found.
+fn check_forms(rt: &impl Abort, found: &[&'static str], forms: &[&'static str]) {
+    for form in forms {
+        assert!(rt; found.contains(form), "{form}");
+    }
+}
+
 #[test]
 fn images_have_the_cells_of_the_slow_machine(rt: HostRuntime) -> Result<(), Fail> {
     let mut forms = Vec::new(rt.alloc());
     for row in &ROWS {
         check_row(&rt, rt.alloc(), row, &mut forms)?;
     }
-    for form in &FORMS {
-        assert!(rt; forms.contains(form), "{form}");
-    }
+    check_forms(&rt, &forms, &FORMS);
     Ok(())
 }
 
@@ -348,66 +356,53 @@ fn code_by_hand_has_the_cells_of_the_slow_machine(rt: HostRuntime) -> Result<(),
     let mut forms = Vec::new(rt.alloc());
     let tokened = hand_program(rt.alloc())?;
     for cells in 0..4 {
-        let mut slow = TokenMachine::new(rt.alloc(), &tokened, &[], cells, 1)?;
         let file = hand_file(rt.alloc(), cells)?;
-        let shapes = tokened.shape.constructors();
-        let mut walk = Walk::new(rt.alloc(), shapes, file.as_slice(), cells, 1)?;
-        let (end, halt) = walk.follow(&mut slow)?;
-        assert_eq!(rt; halt, halt_of(end), "{cells} cells");
-        let is_like = walk.is_like(&slow)?;
-        assert!(rt;
-            is_like && (end == End::HeapFull) == (cells < 2),
-            "{cells} cells"
-        );
-        forms.extend_from_slice(&walk.forms)?;
+        let (mut slow, mut walk) = started(rt.alloc(), &tokened, &file, cells, 1)?;
+        let (end, halt) = walk.follow(&mut slow, &mut forms)?;
+        assert_eq!(rt; halt, end, "{cells} cells");
+        assert_eq!(rt; end, if cells < 2 { HEAP_FULL } else { ENDED });
+        let counted = walk.counted(&slow)?;
+        assert!(rt; counted.is_some(), "{cells} cells");
     }
-    for form in &HAND_FORMS {
-        assert!(rt; forms.contains(form), "{form}");
-    }
+    check_forms(&rt, &forms, &HAND_FORMS);
     Ok(())
 }
 
-#[test]
-fn long_lists_are_dropped_at_once(rt: HostRuntime) -> Result<(), Fail> {
-    let compiled = compile_text(rt.alloc(), LONG)?;
-    let (full, counted) = check_same(&rt, rt.alloc(), &compiled, (50, DEPTH), None)?;
-    assert!(rt; full == End::HeapFull && counted == 50);
-    let (end, left) = check_same(&rt, rt.alloc(), &compiled, (60_000, DEPTH), None)?;
-    assert!(rt; end == End::Ended && left == 0);
-    Ok(())
+/// How many cells are counted where the slow machine's newest cell is this one, and both have the same.
+fn counted_with(
+    walk: &Walk<'_>,
+    slow: &mut TokenMachine<'_>,
+    newest: Cell,
+) -> Result<Option<usize>, Fail> {
+    slow.heap.cells.pop();
+    slow.heap.cells.push(newest)?;
+    walk.counted(slow)
 }
 
-/// How many cells both have at the end of a run, where they have the same: then with another count, with another constructor and with
-/// another field of the slow machine's newest cell.
-fn counted_otherwise(alloc: Global, compiled: &Compiled) -> Result<[Option<usize>; 4], Fail> {
-    let texts = &compiled.accepted.instances.texts;
-    let mut slow = TokenMachine::new(alloc, &compiled.tokened, texts, 2, DEPTH)?;
-    let file = file_of(alloc, compiled.text, 2, DEPTH)?;
-    let shapes = compiled.tokened.shape.constructors();
-    let mut walk = Walk::new(alloc, shapes, file.as_slice(), 2, DEPTH)?;
-    walk.run(&mut slow)?;
-    let same = walk.counted(&slow)?;
-    let cell = slow.heap.cells.last_mut().ok_or("no cell")?;
-    let made_by = cell.made_by;
-    cell.count = 2;
-    let counted = walk.counted(&slow)?;
-    let cell = slow.heap.cells.last_mut().ok_or("no cell")?;
-    cell.count = 1;
-    cell.made_by = 0;
-    let made = walk.counted(&slow)?;
-    let cell = slow.heap.cells.last_mut().ok_or("no cell")?;
-    cell.made_by = made_by;
-    let field = cell.fields.first_mut().ok_or("no field")?;
-    *field = Value::Integer(9);
-    let filled = walk.counted(&slow)?;
-    Ok([same, counted, made, filled])
-}
-
-/// A cell with another count, another constructor or another field is not found in the image.
+/// `REVERSE` with two cells ends with the list of 2 and 1. A cell with another count, another constructor or another field is not
+/// found in the image.
 #[test]
 fn other_cells_are_told_apart(rt: HostRuntime) -> Result<(), Fail> {
-    let compiled = compile_text(rt.alloc(), REVERSE)?;
-    let counts = counted_otherwise(rt.alloc(), &compiled)?;
-    assert_eq!(rt; counts, [Some(2), None, None, None]);
+    let tokened = compiled(rt.alloc(), REVERSE)?;
+    let file = file_of(rt.alloc(), REVERSE, 2, 5)?;
+    let (mut slow, mut walk) = started(rt.alloc(), &tokened, &file, 2, 5)?;
+    let mut forms = Vec::new(rt.alloc());
+    walk.follow(&mut slow, &mut forms)?;
+    let cons = slow.heap.cells.last().ok_or("no cell")?.made_by;
+    for (count, made_by, number, counted) in [
+        (1, cons, 2, Some(2)),
+        (2, cons, 2, None),
+        (1, 0, 2, None),
+        (1, cons, 9, None),
+    ] {
+        let fields = vec![in rt.alloc(); Value::Integer(number), Value::Place(0)]?;
+        let cell = Cell {
+            count,
+            made_by,
+            fields,
+        };
+        let found = counted_with(&walk, &mut slow, cell)?;
+        assert_eq!(rt; found, counted);
+    }
     Ok(())
 }

@@ -32,7 +32,7 @@ impl Ground {
             return false;
         };
         let end = self.end.wrapping_sub(self.frame.wrapping_mul(above));
-        end.wrapping_sub(self.frame) <= at && at < end
+        (end.wrapping_sub(self.frame) <= at) & (at < end)
     }
 }
 
@@ -86,8 +86,9 @@ impl Sides<'_> {
         let shape = self.shapes.get(cell.made_by as usize).ok_or("no shape")?;
         let count = self.machine.word(pair.at);
         let header = self.machine.word(pair.at.wrapping_add(4));
-        let is_whole = cell.fields.len() == shape.fields.len();
-        if count != Some(cell.count) || header != Some(header_of(shape)) || !is_whole {
+        let is_counted = count == Some(cell.count);
+        let is_made = header == Some(header_of(shape));
+        if !(is_counted & is_made & (cell.fields.len() == shape.fields.len())) {
             return Ok(false);
         }
         let mut at = pair.at.wrapping_add(8);
@@ -127,7 +128,7 @@ impl Sides<'_> {
         let mut at = self.ground.first;
         for _ in 0..self.ground.cells {
             let count = self.machine.word(at).ok_or("no such cell")?;
-            if count > 0 && count < LEAST_ADDRESS {
+            if (count > 0) & (count < LEAST_ADDRESS) {
                 addresses.push(at)?;
             }
             at = at.wrapping_add(CELL_BYTES);
@@ -148,7 +149,7 @@ impl Sides<'_> {
 
     /// How many counted cells there are on each side, where each unfolds as one of the other side; else none. The cell of a token may
     /// still have the words that it had when it was counted.
-    pub(crate) fn counted_alike(&self) -> Result<Option<usize>, Fail> {
+    fn counted_alike(&self) -> Result<Option<usize>, Fail> {
         let mut addresses = self.addresses()?;
         let mut counted: usize = 0;
         for (name, cell) in self.heap.cells.iter().enumerate() {
@@ -189,7 +190,8 @@ impl Sides<'_> {
         let mut at = newest;
         for slot in self.heap.chain().iter().rev() {
             let place = self.machine.word(at.wrapping_add(4)).unwrap_or(0);
-            if self.machine.word(place) != Some(at) || !self.ground.is_in_frame(place, slot.frame) {
+            let is_named = self.machine.word(place) == Some(at);
+            if !(is_named & self.ground.is_in_frame(place, slot.frame)) {
                 return false;
             }
             at = self.machine.word(at).unwrap_or(1);
@@ -197,9 +199,12 @@ impl Sides<'_> {
         at == 0
     }
 
-    /// Whether both have as many free cells, the same held tokens, and the same counted cells.
-    pub(crate) fn are_all_alike(&self) -> Result<bool, Fail> {
+    /// How many cells are counted, where both have as many free cells, the same held tokens, and the same counted cells; else none.
+    pub(crate) fn all_alike(&self) -> Result<Option<usize>, Fail> {
         let free = self.machine.free_cells(self.ground.cells) as usize;
-        Ok(free == self.heap.free_cells() && self.held_alike()? && self.counted_alike()?.is_some())
+        if free == self.heap.free_cells() && self.held_alike()? {
+            return self.counted_alike();
+        }
+        Ok(None)
     }
 }

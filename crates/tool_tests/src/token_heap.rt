@@ -7,7 +7,7 @@ use std::test::Fail;
 const REFERENCES: u32 = 1_000_000;
 
 /// A value of a variable or a field.
-#[derive(Clone, Copy, PartialEq, Eq)]
+#[derive(Clone, Copy)]
 pub(crate) enum Value {
     Integer(i32),
     /// `()`
@@ -27,7 +27,7 @@ pub(crate) struct Cell {
 }
 
 /// What a slot has.
-#[derive(Clone, Copy, PartialEq, Eq)]
+#[derive(Clone, Copy)]
 enum Token {
     Spent,
     Null,
@@ -116,7 +116,7 @@ impl Heap {
         count: usize,
     ) -> Result<Vec<Value>, Fail> {
         let cell = self.cell(value).ok_or("no cell is opened")?;
-        if cell.made_by != made_by || cell.fields.len() != count {
+        if (cell.made_by != made_by) | (cell.fields.len() != count) {
             return Err(Fail::new("another cell is opened"));
         }
         let fields = Vec::from_slice(self.alloc, &cell.fields)?;
@@ -242,12 +242,10 @@ impl Heap {
 
     /// A spent slot gets the token of a cell, or is null.
     pub(crate) fn gain(&mut self, slot: Slot, name: Option<usize>) -> Result<(), Fail> {
-        if self.token(slot) != Token::Spent {
-            return Err(Fail::new("a token is lost"));
-        }
-        match name {
-            Some(name) => self.set(slot, Token::Cell(name)),
-            None => self.set(slot, Token::Null),
+        match (self.token(slot), name) {
+            (Token::Spent, Some(name)) => self.set(slot, Token::Cell(name)),
+            (Token::Spent, None) => self.set(slot, Token::Null),
+            _ => Err(Fail::new("a token is lost")),
         }
     }
 

@@ -3,17 +3,17 @@
 use crate::token_heap::{Heap, Slot, Value};
 use kk_core::{Answer, Decisions, Edge, Node};
 use kk_counted::{Tokened, TokenedBlock, TokenedLast, TokenedStep};
-use kk_syntax::{BinaryOperator, Form, PrintForm, Program, StringLiteral, UnaryOperator};
+use kk_syntax::{BinaryOperator, Form, PrintForm, Program};
+use rv_sim::Halt;
 use std::alloc::Global;
 use std::test::Fail;
 
-/// How a run ends.
-#[derive(Clone, Copy, PartialEq, Eq)]
-pub(crate) enum End {
-    Ended,
-    HeapFull,
-    StackFull,
-}
+/// How an image ends.
+pub(crate) const ENDED: Halt = Halt::Exit(0);
+
+pub(crate) const HEAP_FULL: Halt = Halt::Exit(101);
+
+pub(crate) const STACK_FULL: Halt = Halt::Exit(102);
 
 /// What is left of a block.
 #[derive(Clone, Copy)]
@@ -38,12 +38,11 @@ struct Bound {
     value: Value,
 }
 
-/// A program that runs, on an empty input.
+/// A program that runs. It has the forms and the operators of the programs that are compared.
 #[derive(Drop)]
 pub(crate) struct TokenMachine<'a> {
     alloc: Global,
     program: &'a Tokened,
-    texts: &'a [StringLiteral],
     depth: usize,
     code: Code<'a>,
     /// The newest is the last.
@@ -70,7 +69,6 @@ impl<'a> TokenMachine<'a> {
     pub(crate) fn new(
         alloc: Global,
         program: &'a Tokened,
-        texts: &'a [StringLiteral],
         cells: u32,
         depth: u32,
     ) -> Result<Self, Fail> {
@@ -78,7 +76,6 @@ impl<'a> TokenMachine<'a> {
         Ok(TokenMachine {
             alloc,
             program,
-            texts,
             depth: depth as usize,
             code: code_of(&main.body),
             waits: Vec::new(alloc),
@@ -88,16 +85,6 @@ impl<'a> TokenMachine<'a> {
             heap: Heap::new(alloc, cells as usize),
             output: Vec::new(alloc),
         })
-    }
-
-    /// Runs to the end, within so many steps.
-    pub(crate) fn run(&mut self, steps: u32) -> Result<End, Fail> {
-        for _ in 0..steps {
-            if let Some(end) = self.step()? {
-                return Ok(end);
-            }
-        }
-        Err(Fail::new("the steps are spent"))
     }
 
     /// The form that comes next.
@@ -128,8 +115,9 @@ impl<'a> TokenMachine<'a> {
             TokenedStep::IfUnique { .. } => "IfUnique",
             TokenedStep::Dup { .. } => "Dup",
             TokenedStep::Drop { .. } => "Drop",
-            TokenedStep::Fill { slot, .. } if self.has_cell(*slot) => "Fill",
-            TokenedStep::Fill { .. } => "Fill of null",
+            TokenedStep::Fill { slot, .. } if !self.has_cell(*slot) => "Fill of null",
+            TokenedStep::Fill { kept, .. } if kept.is_empty() => "Fill",
+            TokenedStep::Fill { .. } => "Fill that keeps fields",
             TokenedStep::Free { .. } => "Free",
             TokenedStep::Null { .. } => "Null",
             TokenedStep::Move { .. } => "Move",
@@ -144,7 +132,7 @@ impl<'a> TokenMachine<'a> {
     }
 
     /// One step. How the run has ended, if it has.
-    pub(crate) fn step(&mut self) -> Result<Option<End>, Fail> {
+    pub(crate) fn step(&mut self) -> Result<Option<Halt>, Fail> {
         match self.code.steps.split_first() {
             Some((step, rest)) => {
                 self.code.steps = rest;
@@ -155,7 +143,7 @@ impl<'a> TokenMachine<'a> {
     }
 
     /// A step of a block.
-    fn take(&mut self, step: &'a TokenedStep) -> Result<Option<End>, Fail> {
+    fn take(&mut self, step: &'a TokenedStep) -> Result<Option<Halt>, Fail> {
         match step {
             TokenedStep::Inside { variable, block } => {
                 self.wait(*variable, None)?;
@@ -349,11 +337,10 @@ impl<'a> TokenMachine<'a> {
         };
         let left = self.heap.lower(name)?;
         for (field, is_used) in fields {
-            if left == 0 && !*is_used {
-                self.heap.drop_value(*field)?;
-            }
-            if left > 0 && *is_used {
-                self.heap.dup(*field)?;
+            match (left, *is_used) {
+                (0, false) => self.heap.drop_value(*field)?,
+                (0, true) | (_, false) => {}
+                (_, true) => self.heap.dup(*field)?,
             }
         }
         Ok(())
@@ -376,7 +363,7 @@ impl<'a> TokenMachine<'a> {
         form: Form,
         values: Vec<Value>,
         others: &[u32],
-    ) -> Result<Option<End>, Fail> {
+    ) -> Result<Option<Halt>, Fail> {
         let value = match form {
             Form::Call(function) => return self.call(variable, function, &values),
             Form::Construct(constructor) if !values.is_empty() => {
@@ -385,32 +372,17 @@ impl<'a> TokenMachine<'a> {
             Form::Construct(constructor) => Value::Constant(constructor),
             Form::Number(number) => Value::Integer(number),
             Form::Unit => Value::Unit,
-            Form::ReadByte => Value::Integer(-1),
-            Form::PrintText(form, text) => self.print_text(form, text)?,
-            Form::Print(form) => self.print_number(form, integer(&values, 0))?,
-            Form::Unary(operator) => unary(operator, &values),
-            Form::Binary(operator) => binary(operator, integer(&values, 0), integer(&values, 1)),
+            Form::Print(PrintForm::PrintLine) => self.print_line(integer(&values, 0))?,
+            Form::Binary(operator) => binary(operator, integer(&values, 0), integer(&values, 1))?,
+            _ => return Err(Fail::new("no program has such a form")),
         };
         self.bind(variable, value)?;
         Ok(None)
     }
 
-    fn print_text(&mut self, form: PrintForm, text: u32) -> Result<Value, Fail> {
-        let text = self.texts.get(text as usize).ok_or("no such text")?;
-        self.output.extend_from_slice(text.as_slice())?;
-        self.end_piece(form)
-    }
-
-    fn print_number(&mut self, form: PrintForm, number: i32) -> Result<Value, Fail> {
-        let digits = format!(in self.alloc; "{number}")?;
-        self.output.extend_from_slice(digits.as_bytes())?;
-        self.end_piece(form)
-    }
-
-    fn end_piece(&mut self, form: PrintForm) -> Result<Value, Fail> {
-        if form == PrintForm::PrintLine {
-            self.output.push(b'\n')?;
-        }
+    fn print_line(&mut self, number: i32) -> Result<Value, Fail> {
+        let line = format!(in self.alloc; "{number}\n")?;
+        self.output.extend_from_slice(line.as_bytes())?;
         Ok(Value::Unit)
     }
 
@@ -421,9 +393,9 @@ impl<'a> TokenMachine<'a> {
         constructor: u32,
         values: Vec<Value>,
         others: &[u32],
-    ) -> Result<Option<End>, Fail> {
+    ) -> Result<Option<Halt>, Fail> {
         if !self.heap.request(self.frame, others)? {
-            return Ok(Some(End::HeapFull));
+            return Ok(Some(HEAP_FULL));
         }
         let value = self.heap.make(constructor, values)?;
         self.bind(variable, value)?;
@@ -439,7 +411,7 @@ impl<'a> TokenMachine<'a> {
         values: Vec<Value>,
         kept: &[u32],
         others: &[u32],
-    ) -> Result<Option<End>, Fail> {
+    ) -> Result<Option<Halt>, Fail> {
         let slot = self.slot(slot);
         let Some(name) = self.heap.spend(slot)? else {
             return self.construct(variable, constructor, values, others);
@@ -464,10 +436,10 @@ impl<'a> TokenMachine<'a> {
         variable: u32,
         function: u32,
         values: &[Value],
-    ) -> Result<Option<End>, Fail> {
+    ) -> Result<Option<Halt>, Fail> {
         let frame = self.frame.saturating_add(1);
         if self.depth <= frame {
-            return Ok(Some(End::StackFull));
+            return Ok(Some(STACK_FULL));
         }
         self.wait(variable, Some(self.base))?;
         self.frame = frame;
@@ -476,7 +448,7 @@ impl<'a> TokenMachine<'a> {
     }
 
     /// The body of a function comes.
-    fn enter(&mut self, function: u32, values: &[Value]) -> Result<Option<End>, Fail> {
+    fn enter(&mut self, function: u32, values: &[Value]) -> Result<Option<Halt>, Fail> {
         let functions = &self.program.functions;
         let function = functions.get(function as usize).ok_or("no such function")?;
         self.code = code_of(&function.body);
@@ -487,7 +459,7 @@ impl<'a> TokenMachine<'a> {
     }
 
     /// The end of a block.
-    fn finish(&mut self) -> Result<Option<End>, Fail> {
+    fn finish(&mut self) -> Result<Option<Halt>, Fail> {
         match self.code.last {
             TokenedLast::Return(variable) => self.give(self.value_of(*variable)),
             TokenedLast::TailCall(function, arguments) => {
@@ -510,9 +482,9 @@ impl<'a> TokenMachine<'a> {
     }
 
     /// What waits takes a value.
-    fn give(&mut self, value: Value) -> Result<Option<End>, Fail> {
+    fn give(&mut self, value: Value) -> Result<Option<Halt>, Fail> {
         let Some(wait) = self.waits.pop() else {
-            return Ok(Some(End::Ended));
+            return Ok(Some(ENDED));
         };
         if let Some(base) = wait.caller {
             self.bindings.truncate(self.base);
@@ -546,26 +518,15 @@ fn truth(holds: bool) -> Value {
     Value::Constant(if holds { Program::TRUE } else { Program::FALSE })
 }
 
-fn unary(operator: UnaryOperator, values: &[Value]) -> Value {
+fn binary(operator: BinaryOperator, x: i32, y: i32) -> Result<Value, Fail> {
     match operator {
-        UnaryOperator::Negate => Value::Integer(integer(values, 0).wrapping_neg()),
-        UnaryOperator::Not => truth(values.first() != Some(&Value::Constant(Program::TRUE))),
-    }
-}
-
-fn binary(operator: BinaryOperator, x: i32, y: i32) -> Value {
-    match operator {
-        BinaryOperator::Add => Value::Integer(x.wrapping_add(y)),
-        BinaryOperator::Subtract => Value::Integer(x.wrapping_sub(y)),
-        BinaryOperator::Multiply => Value::Integer(x.wrapping_mul(y)),
-        BinaryOperator::Divide => Value::Integer(if y == 0 { 0 } else { x.wrapping_div(y) }),
-        BinaryOperator::Remainder => Value::Integer(if y == 0 { x } else { x.wrapping_rem(y) }),
-        BinaryOperator::Equal => truth(x == y),
-        BinaryOperator::NotEqual => truth(x != y),
-        BinaryOperator::Less => truth(x < y),
-        BinaryOperator::LessEqual => truth(x <= y),
-        BinaryOperator::Greater => truth(x > y),
-        BinaryOperator::GreaterEqual => truth(x >= y),
+        BinaryOperator::Add => Ok(Value::Integer(x.wrapping_add(y))),
+        BinaryOperator::Subtract => Ok(Value::Integer(x.wrapping_sub(y))),
+        BinaryOperator::Multiply => Ok(Value::Integer(x.wrapping_mul(y))),
+        BinaryOperator::Remainder if y != 0 => Ok(Value::Integer(x.wrapping_rem(y))),
+        BinaryOperator::Equal => Ok(truth(x == y)),
+        BinaryOperator::Less => Ok(truth(x < y)),
+        _ => Err(Fail::new("no program has such an operator")),
     }
 }
 

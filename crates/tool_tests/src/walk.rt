@@ -1,7 +1,7 @@
 //! An image that runs beside the slow machine, form by form.
 
 use crate::sides::{Ground, Sides};
-use crate::token_machine::{End, TokenMachine};
+use crate::token_machine::TokenMachine;
 use kk_core::ConstructorShape;
 use kk_memio::{MemSink, MemSource};
 use rv_sim::{Halt, Machine};
@@ -9,7 +9,7 @@ use std::alloc::Global;
 use std::test::Fail;
 
 /// The most steps of a run of the slow machine, and the most instructions of one of an image.
-pub(crate) const STEPS: u32 = 5_000_000;
+const STEPS: u32 = 5_000_000;
 
 const INSTRUCTIONS: u32 = 100_000_000;
 
@@ -27,8 +27,6 @@ pub(crate) struct Walk<'a> {
     input: MemSource,
     out: MemSink,
     ground: Ground,
-    /// The forms at which it was compared.
-    pub(crate) forms: Vec<&'static str>,
 }
 
 impl<'a> Walk<'a> {
@@ -60,13 +58,12 @@ impl<'a> Walk<'a> {
             input: MemSource::new(alloc, b"", &[])?,
             out: MemSink::new(alloc, 100, &[])?,
             ground,
-            forms: Vec::new(alloc),
         })
     }
 
     /// Executes so many instructions, or fewer where the image ends.
     fn advance(&mut self, count: u32) -> Result<Halt, Fail> {
-        if self.machine.faulted() || self.machine.executed() > u64::from(INSTRUCTIONS) {
+        if self.machine.faulted() | (self.machine.executed() > u64::from(INSTRUCTIONS)) {
             return Err(Fail::new("the image goes on"));
         }
         let halt = self
@@ -86,23 +83,18 @@ impl<'a> Walk<'a> {
         }
     }
 
-    /// Whether the image has put what the slow machine has put, and has its cells.
-    pub(crate) fn is_like(&self, slow: &TokenMachine<'_>) -> Result<bool, Fail> {
-        if self.out.held_bytes() != slow.output.as_slice() {
-            return Ok(false);
-        }
-        self.sides(slow).are_all_alike()
-    }
-
-    /// How many cells are counted, where both have the same.
+    /// How many cells are counted, where the image has put what the slow machine has put, and has its cells; else none.
     pub(crate) fn counted(&self, slow: &TokenMachine<'_>) -> Result<Option<usize>, Fail> {
-        self.sides(slow).counted_alike()
+        if self.out.held_bytes() != slow.output.as_slice() {
+            return Ok(None);
+        }
+        self.sides(slow).all_alike()
     }
 
     /// The image goes on to a moment at which it is like the slow machine, which is at this form.
     fn come_to(&mut self, slow: &TokenMachine<'_>, form: &'static str) -> Result<(), Fail> {
         for _ in 0..INSTRUCTIONS {
-            if self.is_like(slow)? {
+            if self.counted(slow)?.is_some() {
                 return Ok(());
             }
             if self.advance(1)? != Halt::StepsSpent {
@@ -112,13 +104,18 @@ impl<'a> Walk<'a> {
         Err(Fail::new("the image goes on"))
     }
 
-    /// Runs both to their ends. The image comes to a moment like each form of the slow machine, in their order.
-    pub(crate) fn follow(&mut self, slow: &mut TokenMachine<'_>) -> Result<(End, Halt), Fail> {
+    /// Runs both to their ends: that of the slow machine, and that of the image. The image comes to a moment like each form of the
+    /// slow machine, in their order. The forms are added where they are new.
+    pub(crate) fn follow(
+        &mut self,
+        slow: &mut TokenMachine<'_>,
+        forms: &mut Vec<&'static str>,
+    ) -> Result<(Halt, Halt), Fail> {
         for _ in 0..STEPS {
             let form = slow.form();
             self.come_to(slow, form)?;
-            if !self.forms.contains(&form) {
-                self.forms.push(form)?;
+            if !forms.contains(&form) {
+                forms.push(form)?;
             }
             if let Some(end) = slow.step()? {
                 let halt = self.advance(INSTRUCTIONS)?;
@@ -126,12 +123,5 @@ impl<'a> Walk<'a> {
             }
         }
         Err(Fail::new("the steps are spent"))
-    }
-
-    /// Runs both to their ends.
-    pub(crate) fn run(&mut self, slow: &mut TokenMachine<'_>) -> Result<(End, Halt), Fail> {
-        let end = slow.run(STEPS)?;
-        let halt = self.advance(INSTRUCTIONS)?;
-        Ok((end, halt))
     }
 }

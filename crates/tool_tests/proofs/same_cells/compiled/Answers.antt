@@ -1,6 +1,6 @@
 use Rattle.kk_syntax.specs.Programs.{program_tree}
 use Rattle.kk_build.proofs.LentNames.{keeps_lent}
-use Rattle.tool_tests.proofs.tokens.compiled.Goals as goal
+use Rattle.tool_tests.proofs.same_cells.compiled.Goals as goal
 
 pub compile-requires-clause-checked : goal.compile-requires-clause-checked
 compile-requires-clause-checked c =
