@@ -30,7 +30,7 @@ use Rattle.rv_place.specs.Lines.{Map, IsFromPointer, ShiftsStack, ActsAt, LineAt
 use Rattle.rv_place.specs.Lines.{MovesBy, ReturnsBy, TestsRoom, registers_of, register_into}
 use Rattle.rv_place.specs.Registers.{zero_register, ra, sp}
 use Rattle.rv_isa.specs.PlacedMachine.{first_slot}
-use Rattle.rv_place.specs.Instructions.{Computes}
+use Rattle.rv_place.specs.Instructions.{words_to_lower, Computes}
 use Rattle.rv_place.specs.declared.chart.Chart.{Chart}
 use Rattle.rv_place.specs.declared.labels.Labels.{Labels}
 use Rattle.rv_place.specs.declared.reach.Reach.{Reach}
@@ -75,7 +75,7 @@ JumpReaches Wide at target = Unit {0}
 
 -- and so does the jump of a call of a routine, behind what stands before it
 abbrev pub RoutineReaches : Reach → Routine → ℕ → ℕ → Type 0
-RoutineReaches jumps Drop at target = JumpReaches jumps (at + 24) target
+RoutineReaches jumps Drop at target = JumpReaches jumps (at + 4 * words_to_lower) target
 RoutineReaches jumps Take at target = JumpReaches jumps at target
 RoutineReaches jumps PrintInt at target = JumpReaches jumps at target
 RoutineReaches jumps PrintText at target = JumpReaches jumps at target

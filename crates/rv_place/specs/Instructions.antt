@@ -158,9 +158,12 @@ RaisesCount code at a =
     (one : Immediate) × (over : BranchOffset) × (one.word ≡ 1) × (over.word ≡ 16)
     × Has code at (Instr.Andi ra a one ∷ Instr.Bne ra zero_register over ∷ []) × RaisesBy one a code (at + 4 + 4)
 
--- how many instructions lower a count
+-- how many instructions lower a count, and how many of them, the first ones, load it
 abbrev pub words_to_lower : ℕ
 words_to_lower = 6
+
+abbrev pub words_to_load : ℕ
+words_to_load = 3
 
 -- The count of the cell to which a0 refers comes to ra. A branch leads on where the reference is odd, which names no cell.
 abbrev pub LoadsCount : BranchOffset → Code → ℕ → Type 0
@@ -182,8 +185,8 @@ pub record DropsReference (jumps : Reach) (code : Code) (at target : ℕ) : Type
   pub loads : LoadsCount over code at
   pub over_call : BranchOffset
   pub over_call_is : over_call.word ≡ 4 + 4 * words_of_jump jumps
-  pub lowers : LowersCount over_call code (at + 12)
-  pub calls : CallsTo jumps code (at + 24) target
+  pub lowers : LowersCount over_call code (at + 4 * words_to_load)
+  pub calls : CallsTo jumps code (at + 4 * words_to_lower) target
 
 -- a call of a routine
 abbrev pub CallsRoutine : Reach → Code → ℕ → Routine → ℕ → Type 0

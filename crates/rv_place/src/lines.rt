@@ -46,16 +46,10 @@ fn emit_action(
         Action::Label(_) => Ok(()),
         Action::Jump(label) => emit_jump(code, at, jumps, labels.address(label)),
         Action::Branch(condition, label) => {
+            let left = argument(args, 0);
+            let right = argument(args, 1);
             let target = labels.address(label);
-            emit_branch(
-                code,
-                at,
-                labels.forms,
-                condition,
-                argument(args, 0),
-                argument(args, 1),
-                target,
-            )
+            emit_branch(code, at, labels.forms, condition, left, right, target)
         }
         Action::Call(function) => emit_call(code, at, jumps, chart.entry(function)),
         Action::TailCall(function) => {

@@ -1,7 +1,7 @@
 // Calls of the runtime's routines as instructions. Before that of a drop the count of the cell is lowered.
 
 ghost use Rattle.std.specs.Prelude.{◌≡◌, ◌+◌, ◌*◌, ◌≤◌, OnOk};
-ghost use Rattle.rv_place.specs.Instructions.{words_of_jump, words_to_lower, LoadsCount, LowersCount, DropsReference, CallsRoutine, words_of_routine};
+ghost use Rattle.rv_place.specs.Instructions.{words_of_jump, words_to_load, words_to_lower, LoadsCount, LowersCount, DropsReference, CallsRoutine, words_of_routine};
 ghost use Rattle.rv_place.specs.Texts.{greatest_address};
 ghost use Rattle.rv_place.specs.Emitted.{Grew, JumpReaches, RoutineReaches};
 
@@ -13,7 +13,7 @@ use rv_isa::{BranchOffset, Immediate, Instr, Register, Routine};
 /// Loads the count of the cell to which `a0` refers into `ra`. An odd reference names no cell: there the branch `over` skips the rest
 /// of the drop.
 fn emit_count(code: &mut Vec<Instr>, over: BranchOffset) -> Result<(), NoMemory>
-    ensures { OnOk result (Grew 3 (LoadsCount over) code.old.items code.new.items) }
+    ensures { OnOk result (Grew words_to_load (LoadsCount over) code.old.items code.new.items) }
 {
     let one = Immediate::new(1);
     emit(
@@ -85,7 +85,7 @@ fn over_drop(jumps: Reach) -> BranchOffset
 /// Gives up the reference in `a0`, from the address `at`: the routine at `target` frees the cell where it was the last one.
 fn emit_drop(code: &mut Vec<Instr>, at: u32, jumps: Reach, target: u32) -> Result<(), NoMemory>
     requires at { at ≤ greatest_address }
-    ensures { OnOk result (Grew (words_to_lower + words_of_jump jumps) (λ c p. p ≡ at → JumpReaches jumps (p + 24) target → DropsReference jumps c p target) code.old.items code.new.items) }
+    ensures { OnOk result (Grew (words_to_lower + words_of_jump jumps) (λ c p. p ≡ at → JumpReaches jumps (p + 4 * words_to_lower) target → DropsReference jumps c p target) code.old.items code.new.items) }
 {
     let over = over_drop(jumps);
     let over_call = over_jump(jumps);

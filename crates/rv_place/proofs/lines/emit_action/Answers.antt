@@ -18,7 +18,7 @@ returns-in-Jump c =
 pub returns-in-Branch : goal.returns-in-Branch
 returns-in-Branch c =
     on_so c.emit_branch.result
-    (on_branch c.args.chart.now c.args.labels.now c.args.at c.args.args.now c.args.into c.in-Branch.is c.address-target.ensures c.argument.ensures c.argument-in-Branch.ensures)
+    (on_branch c.args.chart.now c.args.labels.now c.args.at c.args.args.now c.args.into c.in-Branch.is c.address-target.ensures c.argument-left.ensures c.argument-right.ensures)
     c.emit_branch.ensures
 
 pub returns-in-Call : goal.returns-in-Call
@@ -48,7 +48,7 @@ returns-in-Routine c =
 pub returns-in-Hold : goal.returns-in-Hold
 returns-in-Hold c =
     on_so c.emit_hold.result
-    (on_hold c.args.chart.now c.args.labels.now c.args.at c.args.args.now c.args.into c.in-Hold.is c.argument-in-Hold.ensures c.requires.slots)
+    (on_hold c.args.chart.now c.args.labels.now c.args.at c.args.args.now c.args.into c.in-Hold.is c.argument.ensures c.requires.slots)
     c.emit_hold.ensures
 
 pub returns-in-Unhold : goal.returns-in-Unhold
