@@ -2,7 +2,7 @@
 
 use crate::liveness::{Point, alive_at, is_one_of};
 use crate::places::listing;
-use crate::plans::{Care, Due, Plans};
+use crate::plans::{Care, Copied, Due, Plans};
 use crate::state::{
     NUMBERS, any_register, is_copied_in, is_free, is_in_slot, is_to_be_had, register_of,
     same_state, stands_in, state_at, without_copy_in,
@@ -249,6 +249,31 @@ pub fn kept_register(walk: &Walk, keep: &[u32], ahead: &[u32], value: u32) -> Op
                     _ => None,
                 };
             }
+        }
+    }
+    None
+}
+
+// The register where the value stands at a label ahead, if a register is its place there, and that is to be had.
+fn register_ahead(walk: &Walk, value: u32) -> Option<Register> {
+    for kept in &walk.kept {
+        if let Some(listed) = listing(&kept.state, value) {
+            if let Place::Register(register) = listed.place {
+                if is_to_be_had(&walk.state, &[], register) && !register.is_of_constant() {
+                    return Some(register);
+                }
+            }
+        }
+    }
+    None
+}
+
+/// For a value that is a copy on another way, from a label ahead: the register where the other value stands at that label, if that
+/// is to be had. Where that value ends with the copy, neither way needs a move then.
+pub fn twin_register(walk: &Walk, copies: &[Copied], value: u32) -> Option<Register> {
+    for copied in copies {
+        if copied.into == value {
+            return register_ahead(walk, copied.from);
         }
     }
     None

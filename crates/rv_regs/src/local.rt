@@ -2,7 +2,7 @@
 
 use crate::joins::{
     Walk, go_to, index_from, join, kept_register, make_way, put_away, put_copy, put_store,
-    spare_register, take_state,
+    spare_register, take_state, twin_register,
 };
 use crate::keeping::may_spoil;
 use crate::liveness::{copy_of, is_one_of};
@@ -382,7 +382,10 @@ fn result_for(
             Ok(Register::ZERO)
         }
         Action::Compute(operation) => {
-            let idle = idle_register(&walk.state, operation, args, value, plan);
+            let idle = match idle_register(&walk.state, operation, args, value, plan) {
+                Some(register) => Some(register),
+                None => twin_register(walk, &plan.copies, value),
+            };
             register_for(walk, &[], plan, value, idle)
         }
         Action::Unhold => register_for(walk, &[], plan, value, None),

@@ -14,8 +14,8 @@ use std::mem;
 /// The most work that code with registers is worth: its lines times the square of the most values that are alive at a point.
 const MOST_WORK: usize = 50_000_000;
 
-/// The most labels ahead of a point that are told.
-const MOST_LABELS: usize = 16;
+/// The most labels and the most copies ahead of a point that are told.
+const MOST_AHEAD: usize = 16;
 
 /// A register where a value would best be, and how much that is worth.
 #[derive(Clone, Copy, Debug)]
@@ -30,6 +30,13 @@ pub struct Wish {
 struct LabelWishes {
     label: u32,
     wishes: Vec<Wish>,
+}
+
+/// A copy of a value: the one that it takes, and the one that it gives.
+#[derive(Clone, Copy, Debug)]
+pub struct Copied {
+    pub from: u32,
+    pub into: u32,
 }
 
 /// A value that is to be where it is needed before the statement of this index, since too few moves may stand before a later one.
@@ -69,6 +76,8 @@ pub struct Plan {
     pub wishes: Vec<Wish>,
     /// The next labels on the way on from here.
     pub ahead: Vec<u32>,
+    /// The next copies in the code, on this way or another one.
+    pub copies: Vec<Copied>,
 }
 
 /// What is needed at the points of a function.
@@ -439,7 +448,7 @@ fn ahead_before(alloc: Global, walk: &Walk, action: Action) -> Result<Vec<u32>, 
             let mut ahead = Vec::new(alloc);
             ahead.push(label)?;
             for other in &walk.at.ahead {
-                if ahead.len() < MOST_LABELS {
+                if ahead.len() < MOST_AHEAD {
                     ahead.push(*other)?;
                 }
             }
@@ -451,6 +460,28 @@ fn ahead_before(alloc: Global, walk: &Walk, action: Action) -> Result<Vec<u32>, 
         Action::Branch(..) => copy_of(alloc, &walk.at.ahead),
         _ => alive_behind(alloc, action, &walk.at.ahead, &walk.ahead),
     }
+}
+
+// The next copies in the code, before a statement.
+fn copies_before(
+    alloc: Global,
+    walk: &Walk,
+    statement: &Statement,
+) -> Result<Vec<Copied>, NoMemory> {
+    let mut copies = Vec::new(alloc);
+    if let (Action::Compute(Operation::Mv), Some(from), Some(into)) = (
+        statement.action,
+        statement.args.first(),
+        statement.into,
+    ) {
+        copies.push(Copied { from: *from, into })?;
+    }
+    for copied in &walk.at.copies {
+        if copies.len() < MOST_AHEAD {
+            copies.push(*copied)?;
+        }
+    }
+    Ok(copies)
 }
 
 fn plan_before(
@@ -480,6 +511,7 @@ fn plan_before(
         read: read_before(alloc, walk, statement)?,
         wishes: wishes_before(alloc, walk, statement, &behind)?,
         ahead: ahead_before(alloc, walk, action)?,
+        copies: copies_before(alloc, walk, statement)?,
     })
 }
 
@@ -543,6 +575,7 @@ fn no_plan(alloc: Global) -> Plan {
         read: Vec::new(alloc),
         wishes: Vec::new(alloc),
         ahead: Vec::new(alloc),
+        copies: Vec::new(alloc),
     }
 }
 
