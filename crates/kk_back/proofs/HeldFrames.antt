@@ -1,15 +1,18 @@
 -- Held tokens stand where frames say, in each form of the code: what memory has of the frames of rotated code it has of those of
--- the code with places, and of those of the assembler code.
+-- the code with places, of those of the assembler code with calls in line, and of those of the assembler code.
 use Rattle.std.proofs.Common.{◌≡◌, ◌≢◌, ℕ, List, [], ◌∷◌, length, suc, Option, Some}
 use Rattle.std.proofs.Common.{None, true, refl, sym, ◌∙◌, ap, subst, ◌⊎◌, inl, inr}
 use Rattle.std.specs.Prelude.{unwrap_or}
 use Rattle.rv_isa.specs.declared.placed.Listed.{Listed}
 use Rattle.rv_isa.specs.declared.placed.Place.TheVariants.{Slot as slot}
-use Rattle.rv_isa.specs.AsmCode.{Line}
+use Rattle.rv_isa.specs.AsmCode.{Line, Lines}
 use Rattle.rv_isa.specs.Frames.{Frame}
 use Rattle.rv_isa.specs.PlacedCode.{PlacedLine, PlacedLines}
+use Rattle.rv_isa.specs.ValueBounds.{AreValuesBelow}
 use Rattle.cell_heap.specs.View.{Link}
 use Rattle.rv_cells.specs.TokenMemory.{HeldCell, held_in, held_cells}
+use Rattle.rv_inline.specs.Relation as InLine
+use Rattle.rv_inline.proofs.Frames.{wait_length}
 use Rattle.rv_loops.specs.Relation as Loops
 use Rattle.rv_place.specs.HeldSlots.{HoldsFirst, AreHeld}
 use Rattle.rv_regs.specs.Listings.{first_alive, listed_as}
@@ -133,6 +136,63 @@ module _ (size end : ℕ) where
       (λ v k listed. (stand.0.holds v (record { value = v; place = slot k; held = true; copy = None }) listed).0)
       (placed_waiting fs gs stand.1) links
       (subst (λ n. HoldsFirst size end n g.cells g.held (AreHeld size end gs) links) (placed_number fs gs stand.1) holds)
+
+  -- ---- code with calls in line
+
+  -- the held tokens of a frame, by the same words below a number
+  below_first : (number base : ℕ) (cells other : ℕ → Option ℕ) (ks : List ℕ) (Behind Before : List Link → Type 0)
+      → InLine.SameBelow base cells other → AreValuesBelow base ks → ((links : List Link) → Before links → Behind links)
+      → (links : List Link) → HoldsFirst size end number other ks Before links → HoldsFirst size end number cells ks Behind links
+  below_first number base cells other [] Behind Before same below later links holds = later links holds
+  below_first number base cells other (k ∷ ks) Behind Before same below later [] holds = absurd holds
+  below_first number base cells other (k ∷ ks) Behind Before same below later (link ∷ links) holds = (
+    sym (same k below.0) ∙ holds.0,
+    (holds.1.0, below_first number base cells other ks Behind Before same below.1 later links holds.1.1),
+  )
+
+  module _ (q q' : List Lines) where
+    -- a frame and those behind it
+    inlined_first : (base : ℕ) (f g : Frame Line) (fs gs : List (Frame Line)) → InLine.IsLike q q' base f g
+        → length gs ≡ length fs → ((links : List Link) → AreHeld size end gs links → AreHeld size end fs links)
+        → (links : List Link) → AreHeld size end (g ∷ gs) links → AreHeld size end (f ∷ fs) links
+    inlined_first base f g fs gs like number later links holds =
+        below_first (length fs) base f.cells g.cells f.held (AreHeld size end fs) (AreHeld size end gs) like.cells like.held_below
+        later links
+        (subst (λ ks. HoldsFirst size end (length fs) g.cells ks (AreHeld size end gs) links) like.held
+        (subst (λ n. HoldsFirst size end n g.cells g.held (AreHeld size end gs) links) number holds))
+
+    inlined_waiting : (fs gs : List (Frame Line)) → InLine.AllWait q q' fs gs → (links : List Link)
+        → AreHeld size end gs links → AreHeld size end fs links
+    inlined_waiting [] [] waits links holds = holds
+    inlined_waiting [] (g ∷ gs) waits links holds = absurd waits
+    inlined_waiting (f ∷ fs) [] waits links holds = absurd waits
+    inlined_waiting (f ∷ fs) (g ∷ gs) waits links holds =
+        inlined_first waits.0.0 f g fs gs waits.0.1.0 (wait_length q q' fs gs waits.1) (inlined_waiting fs gs waits.1) links holds
+
+    standing_inlined : (fs gs : List (Frame Line)) → InLine.FramesStand q q' fs gs → (links : List Link)
+        → AreHeld size end gs links → AreHeld size end fs links
+    standing_inlined [] [] stand links holds = holds
+    standing_inlined [] (g ∷ gs) stand links holds = absurd stand
+    standing_inlined (f ∷ fs) [] stand links holds = absurd stand
+    standing_inlined (f ∷ fs) (g ∷ gs) stand links holds =
+        inlined_first stand.0.0 f g fs gs stand.0.1.0 (wait_length q q' fs gs stand.1) (inlined_waiting fs gs stand.1) links holds
+
+    -- the frame of a leaf holds nothing
+    called_inlined : (fs gs : List (Frame Line)) → InLine.FramesInCall q q' fs gs → (links : List Link)
+        → AreHeld size end gs links → AreHeld size end fs links
+    called_inlined [] gs call links holds = absurd call
+    called_inlined (h ∷ []) gs call links holds = absurd call
+    called_inlined (h ∷ f ∷ fs) [] call links holds = absurd call
+    called_inlined (h ∷ f ∷ fs) (g ∷ gs) call links holds =
+        subst (λ ks. HoldsFirst size end (length (f ∷ fs)) h.cells ks (AreHeld size end (f ∷ fs)) links)
+        (sym call.0.1.1.none_held)
+        (inlined_first call.0.0 f g fs gs call.0.1.0 (wait_length q q' fs gs call.1) (inlined_waiting fs gs call.1) links holds)
+
+    -- what memory has of the frames of code with calls in line it has of those of the code
+    pub held_before_calls : (fs gs : List (Frame Line)) → InLine.FramesStand q q' fs gs ⊎ InLine.FramesInCall q q' fs gs
+        → (links : List Link) → AreHeld size end gs links → AreHeld size end fs links
+    held_before_calls fs gs (inl stand) links holds = standing_inlined fs gs stand links holds
+    held_before_calls fs gs (inr call) links holds = called_inlined fs gs call links holds
 
   -- ---- links
 

@@ -70,7 +70,7 @@ use Rattle.rv_place.proofs.BootRuns.{image-ground}
 use Rattle.rv_place.proofs.BootSizes.{bytes_most, text_size}
 use Rattle.rv_place.specs.declared.words.Words.{Words}
 use Rattle.kk_back.specs.Assembled.{IsPlaceable, HasHeldFrames, IsAsmImage}
-use Rattle.kk_back.specs.Memory.{FillMemory, frames_end}
+use Rattle.kk_back.specs.Memory.{HasAsmMemory, FillMemory, frames_end}
 use Rattle.kk_back.specs.Sizes.{most_asm_bytes}
 use Rattle.kk_back.proofs.RotatedCode.{slots_below, all_plain, as_many_rotated, opposes, computes_alone}
 use Rattle.kk_back.proofs.FrameSizes.{frame_most, as_many}
@@ -622,40 +622,52 @@ module _ {cells depth : ℕ} {asm : Asm} {placed looped runtime : Placed} {words
       = ap (λ (texts : List (List ℕ)). length (all_bytes texts)) texts_kept in
       omega (arith, small, own, same, rotated, shorter, no_longer, bytes)
 
+-- the memory of an image of the text has this room
+pub memory_of_image : {cells depth : ℕ} {asm : Asm} {placed looped runtime : Placed} {words : Words} {text : List ℕ}
+    → Makes cells depth asm placed looped runtime words text → (parts : List Part)
+    → parts ≡ program_parts text (placed_memory runtime).size → HasAsmMemory (asm_functions asm) 0 cells depth parts
+memory_of_image {cells} {depth} {asm} {placed} {looped} {runtime} {words} {text} makes parts parts_are = record {
+  placed = looped;
+  is = record {
+    runtime = runtime;
+    runtime_is = makes.runtime_is;
+    words = words;
+    words_are = makes.words_are;
+    text = text;
+    text_is = makes.text_is;
+    parts_are = parts_are;
+    small = frames_small asm placed looped makes.made.formed makes.plain makes.loops;
+    size = ap memory_size_of parts_are ∙ ap (λ (memory : DataSection). memory.size) makes.runtime_is.memory;
+  };
+  few = λ most below.
+      let small = frame_most most (placed_functions looped) (few_slots asm placed looped makes.plain makes.loops most below) in
+      omega (arith, small);
+}
+
+-- and its text is small
+pub text_of_image : {cells depth : ℕ} {asm : Asm} {placed looped runtime : Placed} {words : Words} {text : List ℕ}
+    → Makes cells depth asm placed looped runtime words text → PlacedTextIsSmall → (parts : List Part)
+    → parts ≡ program_parts text (placed_memory runtime).size
+    → length (text_of parts) ≤ most_asm_bytes (asm_functions asm) (asm_constants asm)
+text_of_image {asm = asm} makes is_small parts parts_are =
+    subst (λ (p : List Part). length (text_of p) ≤ most_asm_bytes (asm_functions asm) (asm_constants asm)) (sym parts_are)
+    (text_small makes is_small)
+
 memory_aligned : (text : ℕ) → (memory_start text + bytes_before_cells) % cell_size ≡ 0
 memory_aligned text = omega arith
 
 -- The image of the text, with the memory that the runtime asks for, is an image of the assembler code.
 pub image_of : {cells depth : ℕ} {asm : Asm} {placed looped runtime : Placed} {words : Words} {text : List ℕ}
-    (makes : Makes cells depth asm placed looped runtime words text) → PlacedTextAgrees → PlacedTextEnds → PlacedTextTouchesNone → PlacedTextComes
-    → PlacedTextIsSmall → (entry : ℕ) (parts : List Part) → IsProgramImage entry parts → entry ≡ text_start
+    (makes : Makes cells depth asm placed looped runtime words text) → PlacedTextAgrees → PlacedTextEnds → PlacedTextTouchesNone
+    → PlacedTextComes → (entry : ℕ) (parts : List Part) → IsProgramImage entry parts → entry ≡ text_start
     → parts ≡ program_parts text (placed_memory runtime).size
     → IsAsmImage (asm_functions asm) (asm_constants asm) makes.made.main cells depth entry parts
 image_of {cells} {depth} {asm} {placed} {looped} {runtime} {words} {text} makes text_agrees text_ends text_touches text_comes
-    is_small entry parts program entry_is parts_are =
+    entry parts program entry_is parts_are =
     let there : start (memory_of parts) entry ≡ start (memory_of (program_parts text (placed_memory runtime).size)) text_start
     = ap (λ (p : List Part). start (memory_of p) entry) parts_are ∙ ap (λ e. start (memory_of (program_parts text (placed_memory runtime).size)) e) entry_is in
     record {
       program = program;
-      memory = record {
-        placed = looped;
-        is = record {
-          runtime = runtime;
-          runtime_is = makes.runtime_is;
-          words = words;
-          words_are = makes.words_are;
-          text = text;
-          text_is = makes.text_is;
-          parts_are = parts_are;
-          small = frames_small asm placed looped makes.made.formed makes.plain makes.loops;
-          size = ap memory_size_of parts_are ∙ ap (λ (memory : DataSection). memory.size) makes.runtime_is.memory;
-        };
-        few = λ most below.
-            frame_most most (placed_functions looped) (few_slots asm placed looped makes.plain makes.loops most below);
-      };
-      text =
-          subst (λ (p : List Part). length (text_of p) ≤ most_asm_bytes (asm_functions asm) (asm_constants asm)) (sym parts_are)
-          (text_small makes is_small);
       pool = pool makes;
       cells_are = refl;
       aligned = memory_aligned (text_bytes runtime looped);
@@ -713,11 +725,11 @@ pub image_made : {cells depth frame : ℕ} {asm : Asm} {placed looped runtime : 
     → IsLooped placed looped
     → frame ≡ frame_size (placed_functions looped) → IsText cells depth frame runtime → ArePlacedWords runtime looped words
     → IsTextOf words text → PlacedTextAgrees → PlacedTextEnds → PlacedTextTouchesNone → PlacedTextComes
-    → PlacedTextIsSmall → (entry : ℕ) (parts : List Part) → IsProgramImage entry parts → entry ≡ text_start
+    → (entry : ℕ) (parts : List Part) → IsProgramImage entry parts → entry ≡ text_start
     → parts ≡ program_parts text (placed_memory runtime).size
     → IsAsmImage (asm_functions asm) (asm_constants asm) made.main cells depth entry parts
 unfolding makes_of
 image_made {asm = asm} sizes made valid plain loops frame_is runtime_is words_are text_is text_agrees text_ends text_touches
-    text_comes is_small entry parts program entry_is parts_are =
+    text_comes entry parts program entry_is parts_are =
     image_of (makes_of {asm = asm} sizes made valid plain loops frame_is runtime_is words_are text_is) text_agrees text_ends
-    text_touches text_comes is_small entry parts program entry_is parts_are
+    text_touches text_comes entry parts program entry_is parts_are

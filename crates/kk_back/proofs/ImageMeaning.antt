@@ -1,5 +1,5 @@
 -- The image of a program with tokens does what its bare form does: its assembler code does, and the image does what that does.
-use Rattle.std.proofs.Common.{◌≡◌, ◌≢◌, ◌+◌, ◌<◌, ◌≤◌, ℕ, List, [], All, Some, length, slice_get, refl, sym, ap, subst, ◌∙◌, arith}
+use Rattle.std.proofs.Common.{◌≡◌, ◌≢◌, ◌+◌, ◌*◌, ◌<◌, ◌≤◌, ℕ, List, [], All, Some, length, slice_get, refl, sym, ap, subst, ◌∙◌, arith}
 use Rattle.kk_base.specs.Agreements.{Agree}
 use Rattle.kk_base.specs.Machines.{state}
 use Rattle.kk_base.proofs.Agreements.{agree_through}
@@ -16,8 +16,11 @@ use Rattle.kk_counted.specs.declared.shape.Shape.{Shape}
 use Rattle.elf_image.specs.Parts.{memory_of}
 use Rattle.elf_image.specs.Program.{IsProgramImage, text_of}
 use Rattle.elf_image.specs.declared.part.Part.{Part}
+use Rattle.rv_inline.specs.Growth.{most_growth}
+use Rattle.rv_inline.specs.InLine.{most_fresh}
 use Rattle.rv_isa.specs.AsmCode.{Lines}
 use Rattle.rv_isa.specs.AsmMachine.{asm_machine, asm_start}
+use Rattle.rv_isa.specs.Costs.{functions_length}
 use Rattle.rv_isa.specs.Execution.{rv32im, run}
 use Rattle.rv_isa.specs.Primitives.{stuck}
 use Rattle.rv_isa.specs.Processor.{start, goes}
@@ -33,14 +36,15 @@ use Rattle.rv_cells.specs.TokenedLowered.{IsTokenedForm}
 use Rattle.rv_cells.specs.TokenMemory.{FollowTheirTokens}
 use Rattle.rv_cells.specs.TokenedMeaning.{roomy_outside, IsTokenedLowered, TokenedRunsTheSame}
 use Rattle.rv_place.specs.Images.{outside_lines}
+use Rattle.rv_place.specs.Texts.{most_text_length}
 use Rattle.cell_runtime.specs.Operations.{Constants}
 use Rattle.cell_runtime.specs.World.{first_world, primitives}
 use Rattle.kk_back.specs.Assembled.{IsPlaceable, IsAsmImage, IsImageOfAsm}
 use Rattle.kk_back.specs.Images.{counted_setting, IsRunnable, IsImageOf, HasOwnAddresses}
 use Rattle.kk_back.specs.TokenStates.{ComesToTokenStates}
 use Rattle.kk_back.specs.FreeCells.{AreAllFree}
-use Rattle.kk_back.specs.Memory.{HasMemory}
-use Rattle.kk_back.specs.Sizes.{FitsText, most_text_bytes}
+use Rattle.kk_back.specs.Memory.{HasAsmMemory, HasMemory}
+use Rattle.kk_back.specs.Sizes.{FitsText, most_asm_bytes, most_text_bytes}
 use Rattle.kk_back.proofs.ImageLayers.{same_some}
 use Rattle.kk_back.proofs.FreeCells.{all_are_free}
 use Rattle.kk_back.proofs.OwnAddresses.{own_addresses}
@@ -62,16 +66,23 @@ module _ (shape : Shape) (code : TokenedProgram) (functions : List Lines) (texts
   main_there : slice_get functions 0 ≡ Some lowered.main_lines
   main_there = sym (ap (slice_get functions) runnable.main_first) ∙ lowered.lines_are
 
-  -- it is short, and so fits a text
+  -- it is short, and so fits a text, with room for calls in line
+  pub has_room : AreShortLowered → functions_length functions + most_growth ≤ most_text_length
+  has_room are_short_lowered =
+      let short =
+      are_short_lowered shape code texts functions runnable.lowerable runnable.tokens runnable.spends form runnable.narrow in
+      let code_length = short.0 in
+      let most_length = runnable.short.length in
+      omega (arith, code_length, most_length)
+
   fits : AreShortLowered → FitsText functions texts
   fits are_short_lowered =
       let short =
       are_short_lowered shape code texts functions runnable.lowerable runnable.tokens runnable.spends form runnable.narrow in
-      let code_length = short.0 in
+      let room = has_room are_short_lowered in
       let bytes = short.1 in
-      let most_length = runnable.short.length in
       let most_computes = runnable.short.computes in
-      record { instructions = omega (arith, code_length, most_length); bytes = omega (arith, bytes, most_computes) }
+      record { instructions = omega (arith, room); bytes = omega (arith, bytes, most_computes) }
 
   -- so it can be placed
   pub placeable_of : AreShortLowered → IsPlaceable functions texts
@@ -99,25 +110,25 @@ module _ (shape : Shape) (code : TokenedProgram) (functions : List Lines) (texts
     is_program = image.program
 
     -- and the memory has this room
-    pub has_memory : HaveFewValues → HasMemory code cells depth parts
-    has_memory have_few_values = record {
-      placed = image.memory.placed;
-      is = image.memory.is;
+    pub has_memory : HasAsmMemory functions most_fresh cells depth parts → HaveFewValues → HasMemory code cells depth parts
+    has_memory memory have_few_values = record {
+      placed = memory.placed;
+      is = memory.is;
       few = λ variables slots few_variables few_slots.
-          image.memory.few (most_values_of variables slots)
+          memory.few (most_values_of variables slots)
           (have_few_values shape code texts functions runnable.lowerable runnable.spends form variables slots few_variables
           few_slots);
     }
 
     -- and the text is small
-    pub text_small : TakeFewWords → length (text_of parts) ≤ most_text_bytes code
-    text_small take_few_words =
+    pub text_small : length (text_of parts) ≤ most_asm_bytes functions texts + 4 * most_growth → TakeFewWords
+        → length (text_of parts) ≤ most_text_bytes code
+    text_small text take_few_words =
         let few =
         take_few_words shape code texts functions runnable.lowerable runnable.tokens runnable.spends form runnable.narrow in
         let words = few.0 in
         let bytes = few.1 in
         let many = form.as_many in
-        let text = image.text in
         omega (arith, text, words, bytes, many)
 
     abbrev constants : Constants

@@ -3,6 +3,7 @@ pub mod PlainCode
 pub mod RotatedCode
 pub mod HeldFrames
 pub mod ImageLayers
+pub mod InLineImages
 pub mod FreeCells
 pub mod OwnAddresses
 pub mod TokenRooms

@@ -7,7 +7,7 @@ use Rattle.cell_heap.specs.ProgramMemory.{HoldsCells}
 use Rattle.cell_heap.specs.View.{Link}
 use Rattle.cell_runtime.specs.Sizes.{runtime_words}
 use Rattle.elf_image.specs.Parts.{memory_of}
-use Rattle.elf_image.specs.Program.{IsProgramImage, text_of}
+use Rattle.elf_image.specs.Program.{IsProgramImage}
 use Rattle.elf_image.specs.declared.part.Part.{Part}
 use Rattle.rv_isa.specs.AsmCode.{Lines}
 use Rattle.rv_isa.specs.AsmMachine.{AsmState, asm_machine, asm_start}
@@ -25,8 +25,8 @@ use Rattle.rv_place.specs.ProcessorStates.{HasCells}
 use Rattle.rv_place.specs.Texts.{most_functions}
 use Rattle.cell_runtime.specs.Operations.{Constants, all_bytes}
 use Rattle.cell_runtime.specs.World.{World, first_world, primitives}
-use Rattle.kk_back.specs.Memory.{HasAsmMemory, FillMemory, frames_end}
-use Rattle.kk_back.specs.Sizes.{FitsText, most_asm_bytes}
+use Rattle.kk_back.specs.Memory.{FillMemory, frames_end}
+use Rattle.kk_back.specs.Sizes.{FitsText}
 
 -- Assembler code that can be placed: it is well formed and small, its functions are few, and the first one takes no arguments.
 pub record IsPlaceable (functions : List Lines) (texts : List (List ℕ)) : Type 0 where
@@ -79,15 +79,13 @@ pub record HasLineAddresses (functions : List Lines) (main : Lines) (constants :
       ≡ trace (asm_machine (primitives constants pool) depth functions) n (asm_start main (first_world pool input)))
       × HasHeldFrames pool frame (frames_end pool depth frame) high s)))
 
--- An image of assembler code, for so many cells and such a depth, for which its memory has room, by where its cells and its
--- constants stand. On each input on which that code never is at a loss, the processor's machine agrees with the code's; where the
--- code ends, so does the processor, whose memory has the cells of the world then; outside of the runtime's words, which stand at the
--- entry, no free cell is touched; and the code's lines have their addresses.
+-- An image of assembler code, for so many cells and such a depth, by where its cells and its constants stand. On each input on
+-- which that code never is at a loss, the processor's machine agrees with the code's; where the code ends, so does the processor,
+-- whose memory has the cells of the world then; outside of the runtime's words, which stand at the entry, no free cell is touched;
+-- and the code's lines have their addresses.
 pub record IsAsmImage (functions : List Lines) (texts : List (List ℕ)) (main : Lines) (cells depth entry : ℕ) (parts : List Part)
     : Type 0 where
   pub program : IsProgramImage entry parts
-  pub memory : HasAsmMemory functions cells depth parts
-  pub text : length (text_of parts) ≤ most_asm_bytes functions texts
   pub pool : Pool
   pub cells_are : pool.cells ≡ cells
   pub aligned : pool.first % cell_size ≡ 0

@@ -9,6 +9,7 @@ use Rattle.kk_counted.specs.BareForms.{bare_program}
 use Rattle.kk_counted.specs.FunctionSizes.{AllHaveVariablesBelow, AllHaveSlotsBelow}
 use Rattle.kk_counted.specs.TokenedCodes.{TokenedProgram}
 use Rattle.rv_cells.specs.TokenedFunctions.{most_values_of}
+use Rattle.rv_inline.specs.InLine.{most_fresh}
 use Rattle.rv_isa.specs.declared.placed.Placed.{Placed}
 use Rattle.rv_isa.specs.AsmCode.{Lines}
 use Rattle.rv_isa.specs.PlacedCode.{placed_functions, placed_memory}
@@ -46,16 +47,17 @@ pub record FillMemory (pool : Pool) (depth frame : ℕ) (parts : List Part) : Ty
 abbrev pub frames_end : Pool → ℕ → ℕ → ℕ
 frames_end pool depth frame = end_of pool + depth * frame
 
--- an image of assembler code: a frame has a word for each value that a function names, and no more but that for the way back
-pub record HasAsmMemory (functions : List Lines) (cells depth : ℕ) (parts : List Part) : Type 0 where
+-- an image of assembler code: a frame has a word for each value that a function names, so many more, and no more but that for the way
+-- back
+pub record HasAsmMemory (functions : List Lines) (more cells depth : ℕ) (parts : List Part) : Type 0 where
   pub placed : Placed
   pub is : IsPlacedIn placed cells depth parts
-  pub few : (most : ℕ) → HaveValuesBelow most functions → frame_size (placed_functions placed) ≤ 4 * most + 4
+  pub few : (most : ℕ) → HaveValuesBelow most functions → frame_size (placed_functions placed) ≤ 4 * (most + more) + 4
 
--- an image of a program with tokens: a frame has a word for each variable and each slot of a function, for the arguments of a call, and
--- for the way back, and no more
+-- an image of a program with tokens: a frame has a word for each variable and each slot of a function, for the arguments of a call, for
+-- the values of a call in line, and for the way back, and no more
 pub record HasMemory (code : TokenedProgram) (cells depth : ℕ) (parts : List Part) : Type 0 where
   pub placed : Placed
   pub is : IsPlacedIn placed cells depth parts
   pub few : (variables slots : ℕ) → AllHaveVariablesBelow variables (bare_program code).functions
-      → AllHaveSlotsBelow slots code.functions → frame_size (placed_functions placed) ≤ 4 * most_values_of variables slots + 4
+      → AllHaveSlotsBelow slots code.functions → frame_size (placed_functions placed) ≤ 4 * (most_values_of variables slots + most_fresh) + 4

@@ -30,11 +30,12 @@ use std::alloc::Global;
 /// calls at most `depth` are open at a time.
 ///
 /// Behind its text the image has memory for the runtime's buffer, the cells, and `depth` frames of one size: that which the functions
-/// need that are placed in it. A frame has a word for each variable and each slot of a function, eight for the arguments of a call, and
-/// one for the way back, and no more; and it is at most 4,088 bytes. Where it is over 2,044, there is memory for 2,048 bytes more.
+/// need that are placed in it. A frame has a word for each variable and each slot of a function, eight for the arguments of a call, seven
+/// for the values of a call in line, and one for the way back, and no more; and it is at most 4,088 bytes. Where it is over 2,044, there
+/// is memory for 2,048 bytes more.
 ///
-/// The text has at most four bytes for each word of the runtime, for fifteen words of each function, and for each word of the
-/// functions' forms.
+/// The text has at most four bytes for each word of the runtime, for fifteen words of each function, for each word of the functions'
+/// forms, and for 4,096 words of calls in line.
 ///
 /// The loaded image does what the program does without its tokens: on every input it tells the same events, and exits with 0, 101
 /// or 102 as the program ends by itself, with the heap full or with the stack full. Where it ends by itself and no cell is counted
@@ -79,6 +80,6 @@ pub fn image(
     lowered_tokened_programs_follow_their_tokens();
     lowered_tokened_programs_have_few_values();
     lowered_tokened_programs_take_few_words();
-    let made = assembled(alloc, &asm, cells, depth)?;
+    let made = assembled(alloc, asm, cells, depth)?;
     Ok(made)
 }

@@ -36,7 +36,7 @@ use std::alloc::Global;
 /// it ends by itself, all cells are free. Outside of the runtime's words, which are the first ones of the image, no instruction
 /// loads or stores a byte of a free cell. It does what it does within a number of instructions that is bounded by the program's
 /// steps and the nodes of its greatest body. Its memory has room for the cells and for `depth` frames, each of at most eight
-/// bytes for a node of the greatest body, and 64. Its text has at most 16 bytes for each pair of a node of the greatest body and
+/// bytes for a node of the greatest body, and 92. Its text has at most 16 bytes for each pair of a node of the greatest body and
 /// a node of the program's instances, and four MiB.
 pub fn build(alloc: Global, text: &[u8], cells: u32, depth: u32) -> Result<Bytes, Refusal>
     requires { AreSizes cells depth }
