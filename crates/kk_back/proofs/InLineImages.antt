@@ -39,7 +39,6 @@ use Rattle.kk_back.specs.Assembled.{IsPlaceable, HasHeldFrames, HasLineAddresses
 use Rattle.kk_back.specs.Memory.{HasAsmMemory, frames_end}
 use Rattle.kk_back.specs.Sizes.{most_asm_bytes}
 use Rattle.kk_back.proofs.HeldFrames.{held_before_calls}
-use Rattle.kk_back.proofs.ImageLayers.{same_some}
 
 -- ---- what can be placed
 
@@ -147,7 +146,7 @@ module _ (q q' : List Lines) (texts : List (List ℕ)) (cells depth entry : ℕ)
     begins first = asm_start first (first_world pool input)
 
     is_main : (first : Lines) → slice_get q' 0 ≡ Some first → first ≡ main'
-    is_main first first_is = same_some first main' (sym first_is ∙ main_is')
+    is_main first first_is = let same : Some first ≡ Some main' = sym first_is ∙ main_is' in cc
 
     inlined_never : (n : ℕ) → state inlined_runs n (begins main') ≢ stuck
     inlined_never =
