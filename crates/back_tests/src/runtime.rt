@@ -34,7 +34,7 @@ const TEXTS: [u32; 10] = [
     0x0000_0593,
     0xfb5f_f0ef,
     0x0001_0537,
-    0x1b85_0513,
+    0x1bc5_0513,
     0x0020_0593,
     0xfa5f_f0ef,
     0x000a_0067,
@@ -488,7 +488,7 @@ fn check(rt: &impl Abort, alloc: Global, row: &Row) -> Result<(), Fail> {
 #[test]
 fn largest_text(rt: HostRuntime) -> Result<(), Fail> {
     let placed = text(rt.alloc(), 1_048_576, 65_536, 4096)?;
-    assert_eq!(rt; placed.natives().len(), 104);
+    assert_eq!(rt; placed.natives().len(), 105);
     assert_eq!(rt; placed.memory().stack_bottom, 33_556_512);
     assert_eq!(rt; placed.memory().size, 301_991_968);
     Ok(())

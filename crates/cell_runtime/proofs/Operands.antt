@@ -1,6 +1,7 @@
 -- The immediates and distances of the routines.
 use Rattle.std.proofs.Common.{◌-◌, ◌^◌, lit<}
 use Rattle.kk_base.specs.Exits.{heap_full_exit}
+use Rattle.rv_isa.specs.Conventions.{list_header}
 use Rattle.rv_isa.specs.Numbers.{cell_size}
 use Rattle.rv_isa.specs.declared.immediate.Immediate.{Immediate}
 use Rattle.rv_isa.specs.declared.immediate.BranchOffset.{BranchOffset}
@@ -50,6 +51,9 @@ back_20 = distance 5 0
 
 abbrev pub imm_heap_full : Immediate
 imm_heap_full = record { word = heap_full_exit; in_range = (lit< tt, lit< tt) }
+
+abbrev pub imm_list_header : Immediate
+imm_list_header = record { word = list_header; in_range = (lit< tt, lit< tt) }
 
 abbrev pub forward_24 : BranchOffset
 forward_24 = distance 0 6

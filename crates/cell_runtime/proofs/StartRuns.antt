@@ -4,6 +4,7 @@ use Rattle.std.proofs.lemmas.Bool.Decides.{nat_tests}
 use Rattle.rv_isa.specs.declared.immediate.Immediate.{Immediate}
 use Rattle.rv_isa.specs.declared.immediate.UpperImmediate.{UpperImmediate}
 use Rattle.rv_isa.specs.declared.immediate.JumpOffset.{JumpOffset}
+use Rattle.rv_isa.specs.declared.register.Register.{Register}
 use Rattle.rv_isa.specs.declared.instr.Instr.{Instr}
 use Rattle.rv_isa.specs.declared.instr.Instr.TheVariants.{Lui, Addi, Jal}
 use Rattle.rv_isa.specs.Arithmetic.{sum_word}
@@ -24,8 +25,9 @@ use Rattle.cell_runtime.specs.Registers.{KeptBy}
 use Rattle.cell_runtime.specs.Lines.{Spells, Makes}
 use Rattle.cell_runtime.specs.Starts.{all_free, first_view, AfterStart, IsStartOf}
 use Rattle.rv_isa.proofs.Registers.{x0, x1, x2, x3, x8, x9, x18, x19}
+use Rattle.rv_isa.specs.Conventions.{list_header}
 use Rattle.rv_isa.specs.Numbers.{cell_size}
-use Rattle.cell_runtime.proofs.Operands.{imm_0, imm_1}
+use Rattle.cell_runtime.proofs.Operands.{imm_0, imm_1, imm_list_header}
 use Rattle.cell_runtime.proofs.Spelling.{plain, plain_is}
 use Rattle.cell_runtime.proofs.RoutineCalls.{then_one}
 use Rattle.cell_runtime.specs.Sizes.{runtime_words}
@@ -74,11 +76,14 @@ first_memory pool t usable chain held border end = record {
 
 -- ---- the code
 
+abbrev x20 : Register
+x20 = record { number = 20; in_range = lit< tt }
+
 abbrev pub to_main : JumpOffset
-to_main = record { word = 4 * (runtime_words - 9); in_range = (lit< tt, lit< tt, refl) }
+to_main = record { word = 4 * (runtime_words - 10); in_range = (lit< tt, lit< tt, refl) }
 
 abbrev pub start_code : List Instr
-start_code = Addi x8 x0 imm_0 ∷ Addi x9 x0 imm_0 ∷ Addi x3 x0 imm_1 ∷ Jal x1 to_main ∷ []
+start_code = Addi x8 x0 imm_0 ∷ Addi x9 x0 imm_0 ∷ Addi x3 x0 imm_1 ∷ Addi x20 x0 imm_list_header ∷ Jal x1 to_main ∷ []
 
 abbrev pub start_items : Layout → List Native
 start_items layout = Address x2 Data layout.stack_end ∷ Address x18 Data layout.cells ∷ Address x19 Data layout.cells_end ∷ plain start_code
@@ -89,8 +94,8 @@ module _ (code : Code) (s : Processor) (stands : Stands code s) (a b c : UpperIm
       → IsUsable pool s.parts → s.pc + 4 * runtime_words < 2 ^ 32 → (t : Processor) × AfterStart code pool stack_end (s.pc + 4 * runtime_words) s.pc s t
   starts pool stack_end stack first end usable below =
       let main_aligned = whole-words s.pc (stands.aligned s.pc _ has.0) in
-      let to : sum_word (s.pc + 4 + 4 + 4 + 4 + 4 + 4 + 4 + 4 + 4) (4 * (runtime_words - 9)) ≡ s.pc + 4 * runtime_words = omega arith in
-      let back : sum_word (s.pc + 4 + 4 + 4 + 4 + 4 + 4 + 4 + 4 + 4) 4 ≡ s.pc + 40 = omega arith in
+      let to : sum_word (s.pc + 4 + 4 + 4 + 4 + 4 + 4 + 4 + 4 + 4 + 4) (4 * (runtime_words - 10)) ≡ s.pc + 4 * runtime_words = omega arith in
+      let back : sum_word (s.pc + 4 + 4 + 4 + 4 + 4 + 4 + 4 + 4 + 4 + 4) 4 ≡ s.pc + 44 = omega arith in
       let l = leads-lui stands {v = a.word} has.0 refl (next-is stands s.pc _ has.1.0) in
       let m = then_one stands l (λ on. leads-addi on {v = stack_end} has.1.0 stack (next-is stands (s.pc + 4) _ has.1.1.0)) in
       let n = then_one stands m (λ on. leads-lui on {v = b.word} has.1.1.0 refl (next-is stands (s.pc + 4 + 4) _ has.1.1.1.0)) in
@@ -100,11 +105,12 @@ module _ (code : Code) (s : Processor) (stands : Stands code s) (a b c : UpperIm
       let r = then_one stands q (λ on. leads-addi on {v = 0} has.1.1.1.1.1.1.0 refl (next-is stands (s.pc + 4 + 4 + 4 + 4 + 4 + 4) _ has.1.1.1.1.1.1.1.0)) in
       let u = then_one stands r (λ on. leads-addi on {v = 0} has.1.1.1.1.1.1.1.0 refl (next-is stands (s.pc + 4 + 4 + 4 + 4 + 4 + 4 + 4) _ has.1.1.1.1.1.1.1.1.0)) in
       let w = then_one stands u (λ on. leads-addi on {v = 1} has.1.1.1.1.1.1.1.1.0 refl (next-is stands (s.pc + 4 + 4 + 4 + 4 + 4 + 4 + 4 + 4) _ has.1.1.1.1.1.1.1.1.1.0)) in
-      let v = then_one stands w (λ on. leads-jal on {next = s.pc + 4 * runtime_words} {back = s.pc + 40} has.1.1.1.1.1.1.1.1.1.0 to main_aligned back) in
+      let h = then_one stands w (λ on. leads-addi on {v = list_header} has.1.1.1.1.1.1.1.1.1.0 refl (next-is stands (s.pc + 4 + 4 + 4 + 4 + 4 + 4 + 4 + 4 + 4) _ has.1.1.1.1.1.1.1.1.1.1.0)) in
+      let v = then_one stands h (λ on. leads-jal on {next = s.pc + 4 * runtime_words} {back = s.pc + 44} has.1.1.1.1.1.1.1.1.1.1.0 to main_aligned back) in
       let t = record s {
-        registers = put 1 (s.pc + 40) (put 3 1 (put 9 0 (put 8 0 (put 19 (end_of pool) (put 19 c.word (put 18 pool.first (put 18 b.word (put 2 stack_end (put 2 a.word s.registers)))))))));
+        registers = put 1 (s.pc + 44) (put 20 list_header (put 3 1 (put 9 0 (put 8 0 (put 19 (end_of pool) (put 19 c.word (put 18 pool.first (put 18 b.word (put 2 stack_end (put 2 a.word s.registers))))))))));
         pc = s.pc + 4 * runtime_words;
-        executed = s.executed + 1 + 1 + 1 + 1 + 1 + 1 + 1 + 1 + 1 + 1;
+        executed = s.executed + 1 + 1 + 1 + 1 + 1 + 1 + 1 + 1 + 1 + 1 + 1;
       } in (
         t,
         record {
@@ -114,8 +120,9 @@ module _ (code : Code) (s : Processor) (stands : Stands code s) (a b c : UpperIm
           way_back = refl;
           stack = refl;
           one = refl;
+          header = refl;
           cells = first_memory pool t usable refl refl refl refl;
-          registers = kept (s.pc + 40) (end_of pool) c.word pool.first b.word stack_end a.word;
+          registers = kept (s.pc + 44) (end_of pool) c.word pool.first b.word stack_end a.word;
           parts = refl;
           memory = refl;
           left = refl;
@@ -126,7 +133,7 @@ module _ (code : Code) (s : Processor) (stands : Stands code s) (a b c : UpperIm
       whole-words : (at : ℕ) → at % 4 ≡ 0 → (at + 4 * runtime_words) % 4 ≡ 0
       whole-words at aligned = omega arith
 
-      kept : (w e c f b k a x : ℕ) → KeptBy Start x → value (put 1 w (put 3 1 (put 9 0 (put 8 0 (put 19 e (put 19 c (put 18 f (put 18 b (put 2 k (put 2 a s.registers)))))))))) x ≡ value s.registers x
+      kept : (w e c f b k a x : ℕ) → KeptBy Start x → value (put 1 w (put 20 list_header (put 3 1 (put 9 0 (put 8 0 (put 19 e (put 19 c (put 18 f (put 18 b (put 2 k (put 2 a s.registers))))))))))) x ≡ value s.registers x
       kept w e c f b k a x out =
           let o1 : x ≢ 1 = out.0 in
           let o2 : x ≢ 2 = out.1.0 in
@@ -135,6 +142,7 @@ module _ (code : Code) (s : Processor) (stands : Stands code s) (a b c : UpperIm
           let o9 : x ≢ 9 = out.1.1.1.1.0 in
           let o18 : x ≢ 18 = out.1.1.1.1.1.0 in
           let o19 : x ≢ 19 = out.1.1.1.1.1.1.0 in
+          let o20 : x ≢ 20 = out.1.1.1.1.1.1.1.0 in
           grind (arith, nat_tests)
 
 -- what the items stand for
@@ -161,5 +169,5 @@ module _ (layout : Layout) (memory : ℕ) (is : List Instr) (code : Code) (at : 
       (subst (Has code s.pc) is_whole (subst (λ a. Has code a is) (sym pc_is) has))
       pool (memory + layout.stack_end) spells.3 (second.3 ∙ sym first) (third.3 ∙ sym end) usable low)
 
-pub start_makes : (layout : Layout) → Makes (start_items layout) 10 (layout.cells + layout.cells_end + layout.stack_end) (IsStartOf layout)
+pub start_makes : (layout : Layout) → Makes (start_items layout) 11 (layout.cells + layout.cells_end + layout.stack_end) (IsStartOf layout)
 start_makes layout = record { size = refl; labels = λ before. refl; within = (omega arith, (omega arith, (omega arith, tt))); code = does layout }

@@ -16,7 +16,7 @@ own_of ReadByte = []
 
 -- what stands at a symbol of the runtime changes these
 abbrev pub changed_by : Symbol → List ℕ
-changed_by symbol.Start = 1 ∷ 2 ∷ 3 ∷ 8 ∷ 9 ∷ 18 ∷ 19 ∷ []
+changed_by symbol.Start = 1 ∷ 2 ∷ 3 ∷ 8 ∷ 9 ∷ 18 ∷ 19 ∷ 20 ∷ []
 changed_by (symbol.Routine routine) = own_of routine ++ spoilt_by routine
 changed_by symbol.Stop = 10 ∷ 17 ∷ []
 changed_by symbol.StackFull = 10 ∷ 17 ∷ []

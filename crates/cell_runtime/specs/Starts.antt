@@ -1,7 +1,7 @@
 -- The start of an image.
 use Rattle.std.specs.Prelude.{◌≡◌, ℕ, ◌+◌, ◌*◌, ◌%◌, ◌^◌, ◌<◌, [], ◌&&◌, if◌then◌else◌, nat_eq, nat_le, nat_lt}
 use Rattle.rv_isa.specs.Processor.{Processor, value}
-use Rattle.rv_isa.specs.Conventions.{one_register}
+use Rattle.rv_isa.specs.Conventions.{one_register, header_register, list_header}
 use Rattle.rv_isa.specs.Execution.{Leads, Along}
 use Rattle.rv_isa.specs.Numbers.{cell_size}
 use Rattle.rv_isa.specs.Standing.{Code, Inside}
@@ -23,15 +23,16 @@ all_free pool at =
 abbrev pub first_view : Pool → View
 first_view pool = record { heap = all_free pool; frees = []; border = pool.first; held = [] }
 
--- ten instructions of the code, however many cells there are, lead to `main`: x1 is the way back to the stop behind them, x2 the end
--- of the stack, and x3 is 1
+-- eleven instructions of the code, however many cells there are, lead to `main`: x1 is the way back to the stop behind them, x2 the end
+-- of the stack, x3 is 1, and x20 the header of a list cell
 pub record AfterStart (code : Code) (pool : Pool) (stack_end main at : ℕ) (s t : Processor) : Type 0 where
-  pub leads : Leads 10 s t
-  pub inside : Along (Inside code) 10 s
+  pub leads : Leads 11 s t
+  pub inside : Along (Inside code) 11 s
   pub goes_to : t.pc ≡ main
-  pub way_back : value t.registers 1 ≡ at + 40
+  pub way_back : value t.registers 1 ≡ at + 44
   pub stack : value t.registers 2 ≡ stack_end
   pub one : value t.registers one_register ≡ 1
+  pub header : value t.registers header_register ≡ list_header
   pub cells : Memory pool (first_view pool) t
   pub registers : (x : ℕ) → KeptBy Start x → value t.registers x ≡ value s.registers x
   pub parts : t.parts ≡ s.parts

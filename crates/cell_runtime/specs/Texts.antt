@@ -28,19 +28,19 @@ pool_of cells memory = record { first = memory + bytes_before_cells; cells = cel
 -- the code at an address and behind it: each routine at its place. `main` stands behind the last one
 pub record IsRuntime (cells : ℕ) (layout : Layout) (memory : ℕ) (code : Code) (at : ℕ) : Type 0 where
   pub start : IsStart (pool_of cells memory) (memory + layout.stack_end) (at + 4 * runtime_words) code at
-  pub ended : IsStop ending.Ended code (at + 4 * 10)
-  pub stack_full : IsStop ending.StackFull code (at + 4 * 13)
-  pub take : IsTake (pool_of cells memory) code (at + 4 * 16)
-  pub give_up : IsDrop code (at + 4 * 33)
-  pub print_int : IsPrintInt memory code (at + 4 * 61)
-  pub print_text : IsPrintText code (at + 4 * 85)
-  pub read_byte : IsReadByte memory code (at + 4 * 91)
+  pub ended : IsStop ending.Ended code (at + 4 * 11)
+  pub stack_full : IsStop ending.StackFull code (at + 4 * 14)
+  pub take : IsTake (pool_of cells memory) code (at + 4 * 17)
+  pub give_up : IsDrop code (at + 4 * 34)
+  pub print_int : IsPrintInt memory code (at + 4 * 62)
+  pub print_text : IsPrintText code (at + 4 * 86)
+  pub read_byte : IsReadByte memory code (at + 4 * 92)
 
 -- the labels of the routines, each with the number of instructions before it
 abbrev pub runtime_labels : List (Symbol × ℕ)
 runtime_labels =
-    (Start, 0) ∷ (Stop, 10) ∷ (StackFull, 13) ∷ (Routine routine.Take, 16) ∷ (Routine routine.Drop, 33)
-    ∷ (Routine routine.PrintInt, 61) ∷ (Routine routine.PrintText, 85) ∷ (Routine routine.ReadByte, 91) ∷ []
+    (Start, 0) ∷ (Stop, 11) ∷ (StackFull, 14) ∷ (Routine routine.Take, 17) ∷ (Routine routine.Drop, 34)
+    ∷ (Routine routine.PrintInt, 62) ∷ (Routine routine.PrintText, 86) ∷ (Routine routine.ReadByte, 92) ∷ []
 
 -- how far from the memory's begin the runtime's addresses are at most: twice as far as all frames take, even where each has as many
 -- bytes as a load reaches

@@ -10,15 +10,15 @@ use crate::assembly::{address, ecall, jal, set};
 use crate::layout::Layout;
 use kk_base::{HEAP_FULL_EXIT, STACK_FULL_EXIT};
 use rv_isa::environment::EXIT;
-use rv_isa::{JumpOffset, Native, Register};
+use rv_isa::{JumpOffset, LIST_HEADER, Native, Register};
 
 /// Instructions of the runtime.
-pub const TEXT_WORDS: u32 = 101;
+pub const TEXT_WORDS: u32 = 102;
 
-/// Sets the stack, the bounds of the cells, an empty chain of free cells, an empty chain of held tokens and 1 in `gp`, and calls
-/// `main`, which stands behind the runtime. So `main` returns to the stop behind the start.
-pub fn start(layout: Layout) -> [Native; 7]
-    ensures { Makes (linked result) 10 (layout.cells + layout.cells_end + layout.stack_end) (IsStartOf layout) }
+/// Sets the stack, the bounds of the cells, an empty chain of free cells, an empty chain of held tokens, 1 in `gp` and the header of
+/// a list cell in `s4`, and calls `main`, which stands behind the runtime. So `main` returns to the stop behind the start.
+pub fn start(layout: Layout) -> [Native; 8]
+    ensures { Makes (linked result) 11 (layout.cells + layout.cells_end + layout.stack_end) (IsStartOf layout) }
 {
     [
         address(Register::SP, layout.stack_end),
@@ -27,7 +27,8 @@ pub fn start(layout: Layout) -> [Native; 7]
         set(Register::S0, 0),
         set(Register::S1, 0),
         set(Register::GP, 1),
-        jal(Register::RA, JumpOffset::new(4 * (TEXT_WORDS - 9))),
+        set(Register::S4, LIST_HEADER),
+        jal(Register::RA, JumpOffset::new(4 * (TEXT_WORDS - 10))),
     ]
 }
 

@@ -6,7 +6,7 @@ use Rattle.rv_isa.specs.declared.asm.Action.TheVariants.{Compute, Label, Jump, B
 use Rattle.rv_isa.specs.AsmCode.{Line, Lines}
 use Rattle.rv_isa.specs.Primitives.{Reply, answers, ends, fails, Primitives, Turn, go, ended, stuck, or_stuck, by_token, end_of}
 use Rattle.rv_isa.specs.Frames.{Frame, empty, put, put_into, all_of, only_of, twice_of, result_of, received, found, top, taken_if, holding, unholding}
-use Rattle.rv_isa.specs.Costs.{instructions_of, move_instructions, line_moves}
+use Rattle.rv_isa.specs.Costs.{instructions_of, move_instructions, line_moves, spare_moves}
 
 -- the frames, the running one first, and what is shared
 pub record AsmState (H : Type 0) : Type 0 where
@@ -109,7 +109,8 @@ asm_told m stuck = []
 abbrev pub asm_line_weight : {H E W : Type 0} → Primitives H E W → List (Frame Line) → H → Frame Line → List Line → ℕ
 asm_line_weight m frames shared f [] = 0
 asm_line_weight m frames shared f (line ∷ rest) =
-    line_moves line * move_instructions + instructions_of m line.action (all_of (map f.cells line.args)) (top frames) shared
+    (line_moves line + spare_moves line.action) * move_instructions
+    + instructions_of m line.action (all_of (map f.cells line.args)) (top frames) shared
 
 abbrev pub asm_frames_weight : {H E W : Type 0} → Primitives H E W → List (Frame Line) → H → ℕ
 asm_frames_weight m [] shared = 0

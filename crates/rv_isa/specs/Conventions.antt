@@ -1,5 +1,5 @@
 -- Where values stand for what is done with them: the conventions of calls and routines, and what an instruction can reach.
-use Rattle.std.specs.Prelude.{◌==◌, ℕ, suc, ◌+◌, List, [], ◌∷◌, Option, Some, None, Bool, true, false, cond, not, ◌&&◌, ◌||◌, nat_le, slice_get}
+use Rattle.std.specs.Prelude.{◌==◌, ℕ, suc, ◌+◌, ◌*◌, List, [], ◌∷◌, Option, Some, None, Bool, true, false, cond, not, ◌&&◌, ◌||◌, nat_le, slice_get}
 use Rattle.std.specs.List.{list_any}
 use Rattle.rv_isa.specs.Routines.{taken_by, given_by, is_spoilt_by}
 use Rattle.rv_isa.specs.declared.asm.Action.{Action}
@@ -27,16 +27,35 @@ is_in_any (Some x) place = is_in x place
 abbrev pub one_register : ℕ
 one_register = 3
 
--- the registers that hold a word so: each the word that is its index here
-abbrev pub constant_registers : List ℕ
-constant_registers = 0 ∷ one_register ∷ []
+-- s4 holds a word so too: the header of a cell of tag 1 whose second field alone refers to a cell, as `Cons(head, tail)` of a list of
+-- numbers. Programs write it more than any other header.
+abbrev pub header_register : ℕ
+header_register = 20
+
+abbrev pub list_header : ℕ
+list_header = 1 + 256 * 2
+
+-- a word, and the register that holds it so
+pub record Constant : Type 0 where
+  pub word : ℕ
+  pub register : ℕ
+
+abbrev pub constants : List Constant
+constants =
+    record { word = 0; register = 0 } ∷ record { word = 1; register = one_register }
+    ∷ record { word = list_header; register = header_register } ∷ []
 
 abbrev pub is_constant_register : ℕ → Bool
-is_constant_register number = list_any (λ x. x == number) constant_registers
+is_constant_register number = list_any (λ (constant : Constant). constant.register == number) constants
 
--- the one that holds the word that an action gives, if one does
+-- the register that holds a word so, if one does
+abbrev pub register_with : ℕ → List Constant → Option ℕ
+register_with word [] = None
+register_with word (constant ∷ more) = cond (constant.word == word) (Some constant.register) (register_with word more)
+
+-- the one that holds the word that an action gives
 abbrev pub home : Action → Option ℕ
-home (Compute (Li word)) = slice_get constant_registers word
+home (Compute (Li word)) = register_with word constants
 home _ = None
 
 abbrev pub is_of_constant : Place → Bool

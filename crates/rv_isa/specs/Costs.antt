@@ -63,6 +63,12 @@ argument_moves (TailCall f) count = 2 * count
 argument_moves Unhold count = 0
 argument_moves _ count = count
 
+-- The moves that a statement may have besides. A value that stands where a drop takes its reference, and is read on behind it, leaves that
+-- register first.
+abbrev pub spare_moves : Action → ℕ
+spare_moves (Routine Drop) = 1
+spare_moves _ = 0
+
 -- the move for a result, which is stored
 abbrev pub result_moves : {A : Type 0} → Option A → ℕ
 result_moves None = 0

@@ -6,12 +6,16 @@ ghost use Rattle.rv_isa.specs.Conventions.{home, is_constant_register, is_of_con
 
 use crate::{Action, Operation, Place, Register};
 
+/// The header of a cell of tag 1 whose second field alone refers to a cell, as `Cons(head, tail)` of a list of numbers. Programs write
+/// it more than any other header, so `s4` holds it from the start of a run to its end.
+pub const LIST_HEADER: u32 = 1 + 256 * 2;
+
 impl Register {
     /// Whether the register always holds the same word.
     pub fn is_of_constant(self) -> bool
         ensures { result ≡ is_constant_register self.number }
     {
-        matches!(self.number, 0 | 3)
+        matches!(self.number, 0 | 3 | 20)
     }
 }
 
@@ -55,6 +59,7 @@ impl Action {
         match self {
             Action::Compute(Operation::Li(0)) => Some(Register::ZERO),
             Action::Compute(Operation::Li(1)) => Some(Register::GP),
+            Action::Compute(Operation::Li(LIST_HEADER)) => Some(Register::S4),
             _ => None,
         }
     }

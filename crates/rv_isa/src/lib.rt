@@ -25,6 +25,7 @@ pub use asm::{
     Action, Asm, AsmFunction, Condition, ImmediateOperation, Operation, RegisterOperation,
     ShiftOperation, Statement,
 };
+pub use conventions::LIST_HEADER;
 pub use decoding::decode;
 pub use encoding::encode;
 pub use frame::frame_bytes;

@@ -10,7 +10,7 @@ ghost use Rattle.rv_loops.specs.Rotation.{is_return, turns_off, is_return_line, 
 ghost use Rattle.rv_loops.specs.Heads.{loop_of, Begins};
 
 use kk_base::NoMemory;
-use rv_isa::{Action, Condition, Item, Listed, Operand, Operation};
+use rv_isa::{Action, Condition, Item, LIST_HEADER, Listed, Operand, Operation};
 use std::alloc::Global;
 
 /// The label behind the test. Code that has it already is not rotated.
@@ -36,17 +36,17 @@ pub struct Head {
     pub stays: bool,
 }
 
-/// A copy may be no instruction, and so may 0 and 1; a label is none.
+/// A copy may be no instruction, and so may a constant that a register always holds; a label is none.
 fn is_straight_action(action: Action) -> bool
     ensures { result ≡ is_straight_action action }
 {
     matches!(
         action,
-        Action::Compute(Operation::Mv | Operation::Li(0 | 1)) | Action::Label(_)
+        Action::Compute(Operation::Mv | Operation::Li(0 | 1 | LIST_HEADER)) | Action::Label(_)
     )
 }
 
-/// Whether a line goes straight on: a move or a label, a copy, or the constant 0 or 1.
+/// Whether a line goes straight on: a move or a label, a copy, or a constant that a register always holds.
 fn is_straight(item: &Item) -> bool
     ensures { result ≡ is_straight (placed_line_of item.now) }
 {

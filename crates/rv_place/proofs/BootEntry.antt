@@ -5,7 +5,7 @@ use Rattle.std.specs.List.{slice_get}
 use Rattle.kk_base.specs.Memory.{Part}
 use Rattle.rv_isa.specs.PlacedCode.{PlacedLines}
 use Rattle.rv_isa.specs.PlacedMachine.{PlacedState, placed_entered}
-use Rattle.rv_isa.specs.Conventions.{one_register}
+use Rattle.rv_isa.specs.Conventions.{one_register, header_register, list_header}
 use Rattle.rv_isa.specs.Frames.{empty}
 use Rattle.rv_isa.specs.Bytes.{bytes_at, with_number}
 use Rattle.rv_isa.specs.Processor.{Processor, value, can_store}
@@ -67,6 +67,7 @@ pub record IsBefore (map : Map) (pool : Pool) (depth stop entry : ℕ) (code : C
   pub way_is : value s.registers 1 ≡ stop
   pub base_is : value s.registers 2 ≡ stack_end map depth + frame_bias map.jumps
   pub one : value s.registers one_register ≡ 1
+  pub header : value s.registers header_register ≡ list_header
   pub trace_is : s.trace ≡ []
   pub left_is : s.left ≡ input
   pub cells : HoldsCells pool (unused_cells pool) [] s
@@ -131,6 +132,7 @@ module _ {map : Map} {pool : Pool} {functions : List PlacedLines} {depth buffer 
             (rw (takes.done.memory_is, takes.done.pc_is) frames_stand);
         registers = λ x word e. cc;
         one = takes.done.kept one_register ((λ e. cc), ((λ e. cc), tt)) ∙ before.one;
+        header = takes.done.kept header_register ((λ e. cc), ((λ e. cc), tt)) ∙ before.header;
         cells = outside-holds before.cells (roots_done takes.done refl) (subst (λ m. SameInside pool s.memory m) (sym takes.done.memory_is) (SameInside-store pool s.memory last stop (inr (omega (arith, above, ground.cells_below))))) (record { same = λ slot some. absurd (some refl) });
       };
     }
@@ -170,6 +172,7 @@ module _ {map : Map} {pool : Pool} {functions : List PlacedLines} {depth buffer 
             (subst (λ a. StackAt map code (most_lines functions) stop (stack_end map depth) passed.after.registers s.memory a base (placed_entered 0 main ∷ [])) (sym passed.done.pc_is) stack_stands);
         registers = λ x word e. cc;
         one = passed.done.kept one_register tt ∙ before.one;
+        header = passed.done.kept header_register tt ∙ before.header;
         cells = cells_done before.cells (roots_done passed.done refl) passed.done.memory_is;
       };
     }

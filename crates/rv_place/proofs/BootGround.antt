@@ -38,27 +38,27 @@ use Rattle.rv_place.proofs.PointerShifts.{bias_below}
 
 -- the stop behind the start, where main comes back to
 abbrev pub stop_address : ℕ
-stop_address = text_start + 40
+stop_address = text_start + 44
 
 -- ---- the symbols
 
-behind_stop_full : IsBehind symbol.StackFull 13 runtime_labels
+behind_stop_full : IsBehind symbol.StackFull 14 runtime_labels
 behind_stop_full = inr (λ e. cc, inr (λ e. cc, inl (refl, refl)))
 
-behind_take : IsBehind (symbol.Routine routine.Take) 16 runtime_labels
+behind_take : IsBehind (symbol.Routine routine.Take) 17 runtime_labels
 behind_take = inr (λ e. cc, inr (λ e. cc, inr (λ e. cc, inl (refl, refl))))
 
-behind_drop : IsBehind (symbol.Routine routine.Drop) 33 runtime_labels
+behind_drop : IsBehind (symbol.Routine routine.Drop) 34 runtime_labels
 behind_drop = inr (λ e. cc, inr (λ e. cc, inr (λ e. cc, inr (λ e. cc, inl (refl, refl)))))
 
-behind_print_int : IsBehind (symbol.Routine routine.PrintInt) 61 runtime_labels
+behind_print_int : IsBehind (symbol.Routine routine.PrintInt) 62 runtime_labels
 behind_print_int = inr (λ e. cc, inr (λ e. cc, inr (λ e. cc, inr (λ e. cc, inr (λ e. cc, inl (refl, refl))))))
 
-behind_print_text : IsBehind (symbol.Routine routine.PrintText) 85 runtime_labels
+behind_print_text : IsBehind (symbol.Routine routine.PrintText) 86 runtime_labels
 behind_print_text =
     inr (λ e. cc, inr (λ e. cc, inr (λ e. cc, inr (λ e. cc, inr (λ e. cc, inr (λ e. cc, inl (refl, refl)))))))
 
-behind_read_byte : IsBehind (symbol.Routine routine.ReadByte) 91 runtime_labels
+behind_read_byte : IsBehind (symbol.Routine routine.ReadByte) 92 runtime_labels
 behind_read_byte =
     inr (λ e. cc, inr (λ e. cc, inr (λ e. cc, inr (λ e. cc, inr (λ e. cc, inr (λ e. cc, inr (λ e. cc, inl (refl, refl))))))))
 
@@ -160,12 +160,12 @@ module _ {cells depth : ℕ} {runtime program : Placed} {words : Words} (is_runt
         own = own_code;
         own_part = own-part;
         own_inside = own-inside;
-        take = routine-at (symbol.Routine routine.Take) 16 (IsTake (pool_in cells runtime program) own_code) behind_take stands.take;
-        give_up = routine-at (symbol.Routine routine.Drop) 33 (IsDrop own_code) behind_drop stands.give_up;
-        print_int = routine-at (symbol.Routine routine.PrintInt) 61 (IsPrintInt memory own_code) behind_print_int (rw memory_is stands.print_int);
-        print_text = routine-at (symbol.Routine routine.PrintText) 85 (IsPrintText own_code) behind_print_text stands.print_text;
-        read_byte = routine-at (symbol.Routine routine.ReadByte) 91 (IsReadByte memory own_code) behind_read_byte (rw memory_is stands.read_byte);
-        stack_full = routine-at symbol.StackFull 13 (IsStop ending.StackFull own_code) behind_stop_full stands.stack_full;
+        take = routine-at (symbol.Routine routine.Take) 17 (IsTake (pool_in cells runtime program) own_code) behind_take stands.take;
+        give_up = routine-at (symbol.Routine routine.Drop) 34 (IsDrop own_code) behind_drop stands.give_up;
+        print_int = routine-at (symbol.Routine routine.PrintInt) 62 (IsPrintInt memory own_code) behind_print_int (rw memory_is stands.print_int);
+        print_text = routine-at (symbol.Routine routine.PrintText) 86 (IsPrintText own_code) behind_print_text stands.print_text;
+        read_byte = routine-at (symbol.Routine routine.ReadByte) 92 (IsReadByte memory own_code) behind_read_byte (rw memory_is stands.read_byte);
+        stack_full = routine-at symbol.StackFull 14 (IsStop ending.StackFull own_code) behind_stop_full stands.stack_full;
         stop_word = refl;
         stop_below = omega arith;
         ends = stands.ended;

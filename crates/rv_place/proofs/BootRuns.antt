@@ -108,6 +108,7 @@ module _ {cells depth : ℕ} {runtime program : Placed} {words : Words} {text : 
       way_is = started.1.way_back;
       base_is = started.1.stack ∙ stack_ends;
       one = started.1.one;
+      header = started.1.header;
       trace_is = started.1.trace;
       left_is = started.1.left;
       cells = subst (λ pool. HoldsCells pool (unused_cells pool) [] started.0) (ap (λ n. pool_of cells n) (ap memory_start bytes_are)) (start_holds started.1.cells);
@@ -115,9 +116,9 @@ module _ {cells depth : ℕ} {runtime program : Placed} {words : Words} {text : 
 
     -- how many silent instructions lead to the begin of main's lines: those of the start, and of main's entry
     abbrev pub first_steps : ℕ
-    first_steps = 10 + begin_steps (jumps_of runtime program) (takes_frame (jumps_of runtime program) main.code)
+    first_steps = 11 + begin_steps (jumps_of runtime program) (takes_frame (jumps_of runtime program) main.code)
 
-    few_first : first_steps ≤ 15
+    few_first : first_steps ≤ 16
     few_first = omega (arith, few_steps (jumps_of runtime program) (takes_frame (jumps_of runtime program) main.code))
 
     pub image-begins : Begins (map_of runtime program) (pool_in cells runtime program) (placed_functions program) depth stop_address (code_in words) (parts_of text runtime) main input first_steps (first_processor text (placed_memory runtime).size input)
@@ -138,7 +139,7 @@ module _ {cells depth : ℕ} {runtime program : Placed} {words : Words} {text : 
 
       pub image-agrees : Agree (placed_machine (primitives (constants_of runtime program) (pool_in cells runtime program)) depth (placed_functions program)) (processor_machine rv32im) outside_lines (λ m. m * pace + length main.code + 1) (placed_start main (first_world (pool_in cells runtime program) input)) (goes (first_processor text (placed_memory runtime).size input))
       image-agrees =
-          agree_after_instructions _ 3 15 first_steps (λ m. m * pace + length main.code + 1) (placed_start main (first_world (pool_in cells runtime program) input)) (first_processor text (placed_memory runtime).size input) image-begins.after few_first image-begins.walks.leads image-begins.told begins-agree
+          agree_after_instructions _ 3 16 first_steps (λ m. m * pace + length main.code + 1) (placed_start main (first_world (pool_in cells runtime program) input)) (first_processor text (placed_memory runtime).size input) image-begins.after few_first image-begins.walks.leads image-begins.told begins-agree
 
       -- no state of its run touches a free cell outside of the runtime's words
       pub image-passes : (count : ℕ) → Passing (map_of runtime program) (pool_in cells runtime program) (run count (first_processor text (placed_memory runtime).size input))

@@ -19,7 +19,7 @@ use Rattle.rv_isa.specs.declared.placed.Place.{Place}
 use Rattle.rv_isa.specs.declared.placed.Operand.{Operand}
 use Rattle.rv_isa.specs.PlacedCode.{PlacedLine, PlacedLines}
 use Rattle.rv_isa.specs.Arithmetic.{sum_word}
-use Rattle.rv_isa.specs.Conventions.{is_handed_out, one_register, computes_at, conforms, gives_into, take_from}
+use Rattle.rv_isa.specs.Conventions.{is_handed_out, one_register, header_register, computes_at, conforms, gives_into, take_from}
 use Rattle.rv_isa.specs.Costs.{operation_instructions}
 use Rattle.rv_isa.specs.Primitives.{stuck, or_stuck, by_token}
 use Rattle.rv_isa.specs.Frames.{Frame, all_of}
@@ -126,7 +126,8 @@ module _ {map_of : Map} {pool : Pool} {functions : List PlacedLines} {depth buff
         comes_go map_of pool functions depth stop code parts most old
         (record { frames = behind ∷ fs; registers = known; shared = with_cells world next }) s u n (walks_done done)
         (runs_on map_of pool functions depth stop code parts
-        (record { frames = f ∷ fs; registers = known; shared = world }) next s u (behind ∷ fs) known sp running done (outside_handed changed none one_register refl (λ e. cc))
+        (record { frames = f ∷ fs; registers = known; shared = world }) next s u (behind ∷ fs) known sp running done
+        (outside_handed changed none one_register refl (λ e. cc)) (outside_handed changed none header_register refl (λ e. cc))
         (constants_kept ground f fs known world s running at v allowed) running.room (done.kept 2 outside ∙ running.base_is)
         (stack_kept map_of code (most_lines functions) stop (stack_end map_of depth) ground.some_frame s.registers u.registers s.memory
         (with_number at 4 v s.memory) (s.pc + 4 * words_of_operation operation) sp behind fs link

@@ -11,7 +11,7 @@ use Rattle.rv_isa.specs.declared.placed.Operand.{Operand}
 use Rattle.rv_isa.specs.declared.routine.Routine.TheVariants.{Drop}
 use Rattle.rv_isa.specs.PlacedCode.{PlacedLine, PlacedLines}
 use Rattle.rv_isa.specs.Arithmetic.{sum_word}
-use Rattle.rv_isa.specs.Conventions.{one_register, gives_into}
+use Rattle.rv_isa.specs.Conventions.{one_register, header_register, gives_into}
 use Rattle.rv_isa.specs.Routines.{spoilt_by, is_spoilt_by}
 use Rattle.rv_isa.specs.Primitives.{stuck}
 use Rattle.rv_isa.specs.Frames.{Frame}
@@ -56,7 +56,7 @@ use Rattle.rv_place.proofs.FrameMemory.{handed_apart, value_kept, frames_kept, w
 use Rattle.rv_place.proofs.HeldTokenLinks.{is_own, handed_own, roots_done, cells_done}
 use Rattle.rv_place.proofs.PassedInstructions.{Walks, walks_done, walks_then, stands_part, returns_walk}
 use Rattle.rv_place.proofs.LineOutcomes.{Comes, comes_go, framed_base, sp_low}
-use Rattle.rv_place.proofs.RoutineSimulation.{known_kept, unspoilt_one, outside_spoilt, outside_both, outside_own_of, PassesHeld, gives_none}
+use Rattle.rv_place.proofs.RoutineSimulation.{known_kept, unspoilt_one, unspoilt_header, outside_spoilt, outside_both, outside_own_of, PassesHeld, gives_none}
 
 -- the first word of a cell is apart from each other cell
 first_apart : (x at : ℕ) → x % 32 ≡ 0 → at % 32 ≡ 0 → x ≢ at → (at + 4 ≤ x) ⊎ (x + 32 ≤ at)
@@ -346,6 +346,7 @@ module _ {map_of : Map} {pool : Pool} {functions : List PlacedLines} {depth buff
             frames = runs_as map_of code (most_lines functions) stop (stack_end map_of depth) t.registers t.memory t.pc running.base (behind ∷ fs) at_pc;
             registers = kept_agree t gave.kept;
             one = gave.kept one_register (λ e. cc) (λ e. cc) refl (unspoilt_one Drop) ∙ running.one;
+            header = gave.kept header_register (λ e. cc) (λ e. cc) refl (unspoilt_header Drop) ∙ running.header;
             cells = drop-holds running.cells work turns gave.memory gave.others;
           }) gave.some (omega (arith, gave.few))
 

@@ -4,7 +4,7 @@ use Rattle.std.proofs.Common.{Option, Some, None, Bool, true, false, option_map,
 use Rattle.std.specs.List.{list_any}
 use Rattle.std.proofs.lemmas.Bool.{or_parts, or_from, or_left, or_right, ne_eqb, cond-false, false≢true}
 use Rattle.rv_isa.specs.PlacedCode.{PlacedLine}
-use Rattle.rv_isa.specs.Conventions.{is_handed_out, one_register}
+use Rattle.rv_isa.specs.Conventions.{is_handed_out, one_register, header_register}
 use Rattle.rv_isa.specs.Frames.{Frame, put, top, top_in, top_taken, taken_in, is_among}
 use Rattle.rv_isa.specs.Bytes.{number_at}
 use Rattle.rv_isa.specs.Processor.{Processor}
@@ -41,9 +41,9 @@ outside_own x own (y ∷ ys) none =
     let both = or_parts (is_own y) (list_any is_own ys) none in
     ((λ e. false≢true (sym both.0 ∙ ap is_own (sym e) ∙ own)), outside_own x own ys both.1)
 
--- these, and the one that holds 1
+-- these, and those that hold a word always
 abbrev pub is_fixed : ℕ → Bool
-is_fixed x = (x == one_register) || is_own x
+is_fixed x = (x == one_register) || ((x == header_register) || is_own x)
 
 pub outside_fixed : (x : ℕ) → is_fixed x ≡ true → (changed : List ℕ) → list_any is_fixed changed ≡ false → IsOutside x changed
 outside_fixed x fixed [] none = tt
@@ -55,7 +55,8 @@ pub none_own : (changed : List ℕ) → list_any is_fixed changed ≡ false → 
 none_own [] none = refl
 none_own (y ∷ ys) none =
     let both = or_parts (is_fixed y) (list_any is_fixed ys) none in
-    or_from (is_own y) (list_any is_own ys) (or_parts (y == one_register) (is_own y) both.0).1 (none_own ys both.1)
+    let constants = or_parts (y == one_register) _ both.0 in
+    or_from (is_own y) (list_any is_own ys) (or_parts (y == header_register) (is_own y) constants.1).1 (none_own ys both.1)
 
 -- a register that is handed out is none of the runtime's
 pub handed_own : (x : ℕ) → is_handed_out x ≡ true → is_own x ≡ false

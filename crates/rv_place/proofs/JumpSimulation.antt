@@ -13,7 +13,7 @@ use Rattle.rv_isa.specs.declared.placed.Place.{Place}
 use Rattle.rv_isa.specs.declared.placed.Place.TheVariants.{Register as register, Slot as slot}
 use Rattle.rv_isa.specs.declared.placed.Operand.{Operand}
 use Rattle.rv_isa.specs.PlacedCode.{PlacedLine, PlacedLines}
-use Rattle.rv_isa.specs.Conventions.{is_in, one_register, argument, takes_at, conforms, gives_into, take_from}
+use Rattle.rv_isa.specs.Conventions.{is_in, one_register, header_register, argument, takes_at, conforms, gives_into, take_from}
 use Rattle.rv_isa.specs.Primitives.{Turn, ended, stuck, or_stuck}
 use Rattle.rv_isa.specs.Frames.{Frame, empty, put, all_of, result_of, received, found}
 use Rattle.rv_isa.specs.AsmMachine.{unless_held}
@@ -265,7 +265,7 @@ module _ {map_of : Map} {pool : Pool} {functions : List PlacedLines} {depth buff
     tail_begins own {n} {changed} u own_is done none kept base_is way_is some few =
         comes_go map_of pool functions depth stop code parts 3 old (record { frames = placed_entered g callee ∷ fs; registers = passed 0 words; shared = world }) s u n (walks_done done)
         (runs_on map_of pool functions depth stop code parts (record { frames = f ∷ fs; registers = known; shared = world }) world.cells s u (placed_entered g callee ∷ fs) (passed 0 words) running.base running done
-        (outside_handed changed none one_register refl (λ e. cc)) refl running.room
+        (outside_handed changed none one_register refl (λ e. cc)) (outside_handed changed none header_register refl (λ e. cc)) refl running.room
         (base_is ∙ ap (λ t. cond t running.base (running.base + map_of.frame) + frame_bias map_of.jumps) (sym own_is)) (
           inside,
           (λ k w unknown. cc),
@@ -301,7 +301,7 @@ module _ {map_of : Map} {pool : Pool} {functions : List PlacedLines} {depth buff
         let shift : words_of_shift map_of.jumps ≡ 1 = ap words_of_shift near in
         comes_go map_of pool functions depth stop code parts 3 old (record { frames = placed_entered g callee ∷ fs; registers = passed 0 words; shared = world }) s taken.after (words_of_jump forms.jumps + (words_of_shift map_of.jumps + 1)) (walks_done done)
         (runs_on map_of pool functions depth stop code parts (record { frames = f ∷ fs; registers = known; shared = world }) world.cells s taken.after (placed_entered g callee ∷ fs) (passed 0 words) base running done
-        ((λ e. cc), ((λ e. cc), ((λ e. cc), tt))) (constants_kept ground f fs known world s running last_here way frame_stores) running.room
+        ((λ e. cc), ((λ e. cc), ((λ e. cc), tt))) ((λ e. cc), ((λ e. cc), ((λ e. cc), tt))) (constants_kept ground f fs known world s running last_here way frame_stores) running.room
         (taken.base_is ∙ ap (λ t. cond t base (base + map_of.frame) + frame_bias map_of.jumps) (sym takes))
         (runs_as map_of code (most_lines functions) stop (stack_end map_of depth) taken.after.registers (with_number last_here 4 way s.memory) (entry + 4 * entry_words map_of.jumps) base (placed_entered g callee ∷ fs)
         (frames_pushed map_of code (most_lines functions) stop (stack_end map_of depth) ground.some_frame s.memory base way (entry + 4 * entry_words map_of.jumps) (placed_entered g callee) fs fits inside (λ k w none. cc) refl takes
@@ -486,7 +486,8 @@ module _ {map_of : Map} {pool : Pool} {functions : List PlacedLines} {depth buff
       subst (λ b. FramesAt map_of code (most_lines functions) stop (stack_end map_of depth) s.memory (s.pc + 4 * words_of_jump forms.jumps) b (record left_behind { into = awaited into } ∷ fs)) base_is
       (is_behind (s.pc + 4 * words_of_jump forms.jumps) refl (omega arith), stand.1, (awaits_first g into gives, framed), stand.3) in
       comes_go map_of pool functions depth stop code parts 7 old after s takes.after (words_of_jump forms.jumps + (words_to_frame map_of.jumps + 1 + words_of_shift map_of.jumps + 1)) (walks_done done)
-      (runs_on map_of pool functions depth stop code parts (record { frames = f ∷ fs; registers = known; shared = world }) world.cells s takes.after after.frames (passed 0 words) base running done ((λ e. cc), ((λ e. cc), ((λ e. cc), ((λ e. cc), tt))))
+      (runs_on map_of pool functions depth stop code parts (record { frames = f ∷ fs; registers = known; shared = world }) world.cells s takes.after after.frames (passed 0 words) base running done
+      ((λ e. cc), ((λ e. cc), ((λ e. cc), ((λ e. cc), tt)))) ((λ e. cc), ((λ e. cc), ((λ e. cc), ((λ e. cc), tt))))
       (constants_kept ground f fs known world s running last_below (s.pc + 4 * words_of_jump forms.jumps) allowed) room
       (takes.base_is ∙ ap (λ t. cond t base (base + map_of.frame) + frame_bias map_of.jumps) (sym taking))
       (runs_as map_of code (most_lines functions) stop (stack_end map_of depth) takes.after.registers (with_number last_below 4 (s.pc + 4 * words_of_jump forms.jumps) s.memory) (entry + 4 * entry_words map_of.jumps) base after.frames
@@ -523,7 +524,7 @@ module _ {map_of : Map} {pool : Pool} {functions : List PlacedLines} {depth buff
       subst (λ b. FramesAt map_of code (most_lines functions) stop (stack_end map_of depth) s.memory way b (record left_behind { into = awaited into } ∷ fs)) base_is
       (is_behind way refl last, stand.1, (awaits_first g into gives, framed), stand.3) in
       comes_go map_of pool functions depth stop code parts 7 old after s goes.after (words_of_jump forms.jumps + 1) (walks_done done)
-      (runs_on map_of pool functions depth stop code parts (record { frames = f ∷ fs; registers = known; shared = world }) world.cells s goes.after after.frames (passed 0 words) base running done ((λ e. cc), ((λ e. cc), tt)) refl room
+      (runs_on map_of pool functions depth stop code parts (record { frames = f ∷ fs; registers = known; shared = world }) world.cells s goes.after after.frames (passed 0 words) base running done ((λ e. cc), ((λ e. cc), tt)) ((λ e. cc), ((λ e. cc), tt)) refl room
       (goes.done.kept 2 tt ∙ (old_base ∙ (ap (λ b. b + frame_bias map_of.jumps) base_is ∙ ap (λ t. cond t base (base + map_of.frame) + frame_bias map_of.jumps) (sym bare)))) (
         inside,
         (λ k w none. cc),
@@ -653,7 +654,8 @@ module _ {map_of : Map} {pool : Pool} {functions : List PlacedLines} {depth buff
       let newest = newest_waits map_of code (most_lines functions) stop (stack_end map_of depth) s.memory way (running.base + map_of.frame) (g ∷ gs) running.frames.3 in
       let room : length (g ∷ gs) ≤ depth = (let all = running.room in omega arith) in
       comes_go map_of pool functions depth stop code parts 4 old (record { frames = g ∷ gs; registers = known'; shared = world }) s goes.after gone.steps (walks_done goes.done)
-      (runs_on map_of pool functions depth stop code parts (state_of (g ∷ gs)) world.cells s goes.after (g ∷ gs) known' (running.base + map_of.frame) running goes.done ((λ e. cc), ((λ e. cc), ((λ e. cc), tt))) refl room (goes.base_is ∙ ap (λ b. b + frame_bias map_of.jumps) (sym newest))
+      (runs_on map_of pool functions depth stop code parts (state_of (g ∷ gs)) world.cells s goes.after (g ∷ gs) known' (running.base + map_of.frame) running goes.done ((λ e. cc), ((λ e. cc), ((λ e. cc), tt))) ((λ e. cc), ((λ e. cc), ((λ e. cc), tt)))
+      refl room (goes.base_is ∙ ap (λ b. b + frame_bias map_of.jumps) (sym newest))
       (runs_as map_of code (most_lines functions) stop (stack_end map_of depth) goes.after.registers s.memory way (running.base + map_of.frame) (g ∷ gs) running.frames.3)
       (agrees goes.after (goes.done.kept 10 ((λ e. cc), ((λ e. cc), ((λ e. cc), tt)))))
       (subst (λ links. HoldsCells pool world.cells links goes.after) (ap (λ held. links_in running.base f.cells held (links_of map_of (running.base + map_of.frame) (g ∷ gs))) free) (cells_done running.cells (roots_done goes.done refl) goes.done.memory_is))) gone.some gone.few

@@ -4,7 +4,7 @@ use Rattle.std.proofs.Math.Nat.{suc-mul, mul-le-mul_right}
 use Rattle.std.proofs.lemmas.Bool.{and_from, ne_eqb, false≢true}
 use Rattle.kk_base.specs.Memory.{Part}
 use Rattle.rv_isa.specs.PlacedCode.{PlacedLine, PlacedLines}
-use Rattle.rv_isa.specs.Conventions.{is_handed_out, one_register}
+use Rattle.rv_isa.specs.Conventions.{is_handed_out, one_register, header_register}
 use Rattle.rv_isa.specs.Primitives.{Turn, go, ended, stuck, or_stuck}
 use Rattle.rv_isa.specs.Frames.{Frame, put}
 use Rattle.rv_isa.specs.PlacedMachine.{PlacedState, PlacedTurn, placed_goes, placed_told}
@@ -167,11 +167,11 @@ module _ (map : Map) (pool : Pool) (functions : List PlacedLines) (depth stop : 
   -- ---- the relation is kept
 
   pub runs_on : {n : ℕ} {changed : List ℕ} {memory : ℕ → ℕ} {next : ℕ} (t : PlacedState World) (cells : Cells) (s u : Processor) (frames : List (Frame PlacedLine)) (known : ℕ → Option ℕ) (base : ℕ)
-      → Running map pool functions depth stop code parts t s → Done pool.cells code n changed memory next s u → IsOutside one_register changed
+      → Running map pool functions depth stop code parts t s → Done pool.cells code n changed memory next s u → IsOutside one_register changed → IsOutside header_register changed
       → bytes_at memory map.constants.first (constant_bytes map) ≡ bytes_at s.memory map.constants.first (constant_bytes map)
       → length frames ≤ depth → value u.registers 2 ≡ newest_taken map base frames + frame_bias map.jumps → StackAt map code (most_lines functions) stop (stack_end map depth) u.registers memory next base frames → Agrees known u.registers
       → HoldsCells pool cells (links_of map base frames) u → Running map pool functions depth stop code parts (record { frames = frames; registers = known; shared = with_cells t.shared cells }) u
-  runs_on {memory = memory} {next = next} t cells s u frames known base running done outside same room base_is stand agrees holds =
+  runs_on {memory = memory} {next = next} t cells s u frames known base running done outside apart same room base_is stand agrees holds =
       let at_pc : StackAt map code (most_lines functions) stop (stack_end map depth) u.registers memory u.pc base frames = subst (λ a. StackAt map code (most_lines functions) stop (stack_end map depth) u.registers memory a base frames) (sym done.pc_is) stand in
       record {
         rests = record {
@@ -188,6 +188,7 @@ module _ (map : Map) (pool : Pool) (functions : List PlacedLines) (depth stop : 
         frames = subst (λ m. StackAt map code (most_lines functions) stop (stack_end map depth) u.registers m u.pc base frames) (sym done.memory_is) at_pc;
         registers = agrees;
         one = done.kept one_register outside ∙ running.one;
+        header = done.kept header_register apart ∙ running.header;
         cells = holds;
       }
 
@@ -235,7 +236,7 @@ module _ {map : Map} {pool : Pool} {functions : List PlacedLines} {depth buffer 
   stays most old {n = n} {changed = changed} {next = next} u behind known' done outside none link is_in agrees some within =
       let stand = running.frames in
       comes_go map pool functions depth stop code parts most old (record { frames = record f { code = behind } ∷ fs; registers = known'; shared = world }) s u n (walks_done done)
-      (runs_on map pool functions depth stop code parts (record { frames = f ∷ fs; registers = known; shared = world }) world.cells s u (record f { code = behind } ∷ fs) known' running.base running done (outside_fixed one_register refl changed none) refl running.room
+      (runs_on map pool functions depth stop code parts (record { frames = f ∷ fs; registers = known; shared = world }) world.cells s u (record f { code = behind } ∷ fs) known' running.base running done (outside_fixed one_register refl changed none) (outside_fixed header_register refl changed none) refl running.room
       (done.kept 2 outside ∙ running.base_is)
       (stack_kept map code (most_lines functions) stop (stack_end map depth) ground.some_frame s.registers u.registers s.memory s.memory next running.base (record f { code = behind }) fs link (λ x low high. refl)
       (is_in, stand.1, stand.2, stand.3)) agrees (cells_done running.cells (roots_done done (none_own changed none)) done.memory_is)) some within

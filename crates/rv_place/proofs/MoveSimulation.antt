@@ -1,5 +1,5 @@
 -- Labels, moves and operations of the machine of the placed form, followed by the processor.
-use Rattle.std.proofs.Common.{◌≡◌, ◌≢◌, ◌≤◌, ◌<◌, ◌&&◌, inl, inr, ℕ, zero, suc, ◌+◌, ◌*◌, ◌%◌, ◌^◌, List, [], ◌∷◌, length, Option, Some, None, Bool, true, false, cond, map, option_map, slice_get, eqb-true, refl, sym, ap, ◌∙◌, subst, arith, lit<}
+use Rattle.std.proofs.Common.{◌≡◌, ◌≢◌, ◌≤◌, ◌<◌, ◌&&◌, inl, inr, ℕ, ◌+◌, ◌*◌, ◌%◌, ◌^◌, List, [], ◌∷◌, length, Option, Some, None, Bool, true, false, cond, map, option_map, eqb-true, refl, sym, ap, ◌∙◌, subst, arith, lit<}
 use Rattle.std.proofs.lemmas.Bool.{and_parts, or_from, or_cases}
 use Rattle.kk_base.specs.Memory.{Part}
 use Rattle.rv_isa.specs.declared.register.Register.{Register}
@@ -16,7 +16,7 @@ use Rattle.rv_isa.specs.declared.placed.Way.{Way}
 use Rattle.rv_isa.specs.declared.placed.Way.TheVariants.{Copy, Load, Store}
 use Rattle.rv_isa.specs.PlacedCode.{PlacedLine, PlacedLines, from_of, to_of}
 use Rattle.rv_isa.specs.Arithmetic.{sum_word}
-use Rattle.rv_isa.specs.Conventions.{is_handed_out, is_in, is_in_any, one_register, constant_registers, home, is_lost, is_register, conforms, computes_at, gives_into, take_from}
+use Rattle.rv_isa.specs.Conventions.{is_handed_out, is_in, is_in_any, register_with, constants, home, is_lost, is_register, conforms, computes_at, gives_into, take_from}
 use Rattle.rv_isa.specs.Costs.{operation_instructions}
 use Rattle.rv_isa.specs.Primitives.{stuck, or_stuck}
 use Rattle.rv_isa.specs.Frames.{Frame, put, all_of, is_among}
@@ -25,7 +25,7 @@ use Rattle.rv_isa.specs.PlacedMachine.{PlacedState, PlacedTurn, is_held, read_at
 use Rattle.rv_isa.specs.Bytes.{number_at, with_number}
 use Rattle.rv_isa.specs.Processor.{Processor, Ending, value, can_load, can_store}
 use Rattle.rv_isa.specs.Standing.{Code}
-use Rattle.rv_isa.proofs.Copies.{copy_is, home_is, lost_is}
+use Rattle.rv_isa.proofs.Copies.{copy_is, home_is, constant_is, lost_is}
 use Rattle.rv_isa.proofs.Memory.{word-apart}
 use Rattle.cell_heap.specs.ProgramMemory.{HoldsCells, SameRoots}
 use Rattle.cell_heap.proofs.Frames.{SameInside, SameInside-store}
@@ -125,6 +125,7 @@ module _ {map_of : Map} {pool : Pool} {functions : List PlacedLines} {depth buff
         frames = (is_in, stand.1, stand.2, stand.3);
         registers = agrees;
         one = running.one;
+        header = running.header;
         cells = running.cells;
       }) less
 
@@ -176,14 +177,12 @@ module _ {map_of : Map} {pool : Pool} {functions : List PlacedLines} {depth buff
   stays_there old (arg ∷ other ∷ args) into words turn stands is_in less words_are is = cc stands
 
   -- a register that holds a word always
-  constant_held : (word x : ℕ) → slice_get constant_registers word ≡ Some x → (is_handed_out x ≡ true) × ((value s.registers x ≡ word) × (word < 2 ^ 32))
-  constant_held zero x is = let same : 0 ≡ x = cc in subst (λ y. (is_handed_out y ≡ true) × ((value s.registers y ≡ 0) × (0 < 2 ^ 32))) same (refl, (refl, lit< tt))
-  constant_held (suc zero) x is =
-      let same : one_register ≡ x = cc in
-      subst (λ y. (is_handed_out y ≡ true) × ((value s.registers y ≡ 1) × (1 < 2 ^ 32))) same (refl, (running.one, lit< tt))
-  constant_held (suc (suc word)) x is = cc is
+  constant_held : (word x : ℕ) → register_with word constants ≡ Some x → (is_handed_out x ≡ true) × ((value s.registers x ≡ word) × (word < 2 ^ 32))
+  constant_held =
+      constant_is (λ word x. (is_handed_out x ≡ true) × ((value s.registers x ≡ word) × (word < 2 ^ 32)))
+      (refl, (refl, lit< tt)) (refl, (running.one, lit< tt)) (refl, (running.header, lit< tt))
 
-  constant_already : (old word x : ℕ) (place : Place) → slice_get constant_registers word ≡ Some x → is_in x place ≡ true
+  constant_already : (old word x : ℕ) (place : Place) → register_with word constants ≡ Some x → is_in x place ≡ true
       → IsIn map_of code (most_lines functions) s.pc behind → 1 + length rest ≤ old
       → Comes map_of pool functions depth stop code parts 0 old (placed_writes place (Some word) behind fs known world) s
   constant_already old word x (slot k) held there is_in less = cc there
@@ -193,7 +192,7 @@ module _ {map_of : Map} {pool : Pool} {functions : List PlacedLines} {depth buff
       holds_already old word q (rw number has.0) (rw number has.1) is_in less
 
   constant_is_there : (old word x : ℕ) (args : List Operand) (into : Operand) (words : List ℕ) (turn : PlacedTurn World Ending)
-      → slice_get constant_registers word ≡ Some x → is_in x into.place ≡ true
+      → register_with word constants ≡ Some x → is_in x into.place ≡ true
       → IsIn map_of code (most_lines functions) s.pc behind → 1 + length rest ≤ old
       → placed_acts (primitives map_of.constants pool) depth functions behind fs known world (Compute (OfOperation.Li word)) args (Some into) words ≡ turn → turn ≢ stuck
       → Comes map_of pool functions depth stop code parts 0 old turn s
@@ -338,7 +337,7 @@ module _ {map_of : Map} {pool : Pool} {functions : List PlacedLines} {depth buff
         here address refl word (rw running.rests.parts_are allowed) (slot_misses to) in
         let after : PlacedState World = record { frames = record behind { cells = put to (known from.number) f.cells } ∷ fs; registers = known; shared = world } in
         comes_go map_of pool functions depth stop code parts 1 old after s goes.after 1 (walks_done goes.done)
-        (runs_on map_of pool functions depth stop code parts (record { frames = f ∷ fs; registers = known; shared = world }) world.cells s goes.after after.frames known base running goes.done tt
+        (runs_on map_of pool functions depth stop code parts (record { frames = f ∷ fs; registers = known; shared = world }) world.cells s goes.after after.frames known base running goes.done tt tt
         (constants_kept ground f fs known world s running (base + slot_offset to) (value s.registers from.number) allowed) running.room (goes.done.kept 2 tt ∙ running.base_is)
         (runs_as map_of code (most_lines functions) stop (stack_end map_of depth) goes.after.registers (with_number (base + slot_offset to) 4 (value s.registers from.number) s.memory) (s.pc + 4) base after.frames
         (frames_put map_of code (most_lines functions) stop (stack_end map_of depth) ground.some_frame s.memory base to (value s.registers from.number) s.pc (s.pc + 4) (known from.number) f (record behind { cells = put to (known from.number) f.cells }) fs

@@ -70,7 +70,7 @@ module _ (map : Map) (pool : Pool) (own : Code)
       stays_passes (run k s).processor.pc (own (run k s).processor.pc) refl (inside k less) (run k s) refl
 
   -- the start
-  pub start_walks : {cells : Pool} {end main at : ℕ} {s t : Processor} → AfterStart own cells end main at s t → Walks map pool 10 s t
+  pub start_walks : {cells : Pool} {end main at : ℕ} {s t : Processor} → AfterStart own cells end main at s t → Walks map pool 11 s t
   start_walks {s = s} started = record { leads = started.leads; passes = inside_pass s started.inside }
 
 module _ {map : Map} {pool : Pool} {functions : List PlacedLines} {depth buffer stop : ℕ} {code : Code} {parts : List Part}

@@ -19,7 +19,7 @@ use Rattle.rv_isa.specs.declared.placed.Place.TheVariants.{Register as register,
 use Rattle.rv_isa.specs.declared.placed.Operand.{Operand}
 use Rattle.rv_isa.specs.PlacedCode.{PlacedLine, PlacedLines}
 use Rattle.rv_isa.specs.Arithmetic.{signed}
-use Rattle.rv_isa.specs.Conventions.{one_register, is_in, is_in_any, argument, takes_at, take_from, gives_into}
+use Rattle.rv_isa.specs.Conventions.{one_register, header_register, is_in, is_in_any, argument, takes_at, take_from, gives_into}
 use Rattle.rv_isa.specs.Routines.{spoilt_by, given_by, is_spoilt_by}
 use Rattle.rv_isa.specs.Primitives.{answers, fails, go, stuck, or_stuck}
 use Rattle.rv_isa.specs.Frames.{Frame, put, all_of, top, top_taken}
@@ -88,13 +88,20 @@ outside_own_of routine x none =
     by PrintText a b c = tt
     by ReadByte a b c = tt
 
--- none changes the one that holds 1
+-- none changes those that hold a word always
 pub unspoilt_one : (routine : Called) → is_spoilt_by routine one_register ≡ false
 unspoilt_one Take = refl
 unspoilt_one Drop = refl
 unspoilt_one PrintInt = refl
 unspoilt_one PrintText = refl
 unspoilt_one ReadByte = refl
+
+pub unspoilt_header : (routine : Called) → is_spoilt_by routine header_register ≡ false
+unspoilt_header Take = refl
+unspoilt_header Drop = refl
+unspoilt_header PrintInt = refl
+unspoilt_header PrintText = refl
+unspoilt_header ReadByte = refl
 
 pub known_kept : (test : Bool) (other : Option ℕ) (w : ℕ) → cond test None other ≡ Some w → (test ≡ false) × (other ≡ Some w)
 known_kept true other w is = cc
@@ -263,6 +270,7 @@ module _ {map_of : Map} {pool : Pool} {functions : List PlacedLines} {depth buff
         frames = runs_as map_of code (most_lines functions) stop (stack_end map_of depth) t.registers t.memory t.pc sp (behind ∷ fs) at_pc;
         registers = agrees;
         one = back.kept one_register (λ e. cc) refl (unspoilt_one routine) ∙ running.one;
+        header = back.kept header_register (λ e. cc) refl (unspoilt_header routine) ∙ running.header;
         cells = subst (λ c. HoldsCells pool c (links_of map_of sp (behind ∷ fs)) t) (sym same_cells) (cells_stay t roots memory);
       }) (omega (arith, jump_some forms.jumps)) (omega (arith, jump_most forms.jumps, within))
     where
@@ -509,6 +517,7 @@ module _ {map_of : Map} {pool : Pool} {functions : List PlacedLines} {depth buff
           frames = runs_as map_of code (most_lines functions) stop (stack_end map_of depth) t.registers t.memory t.pc running.base frames at_pc;
           registers = agrees;
           one = back.kept one_register (λ e. cc) refl (unspoilt_one routine) ∙ running.one;
+          header = back.kept header_register (λ e. cc) refl (unspoilt_header routine) ∙ running.header;
           cells = holds;
         }) (omega (arith, jump_some forms.jumps)) (omega (arith, jump_most forms.jumps, within))
 

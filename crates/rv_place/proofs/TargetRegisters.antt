@@ -5,7 +5,7 @@ use Rattle.rv_isa.specs.declared.asm.Action.{Action}
 use Rattle.rv_isa.specs.declared.placed.Place.{Place}
 use Rattle.rv_isa.specs.declared.placed.Place.TheVariants.{Register as register, Slot as slot}
 use Rattle.rv_isa.specs.declared.placed.Operand.{Operand}
-use Rattle.rv_isa.specs.Conventions.{is_handed_out, one_register, is_constant_register, is_of_constant, is_in_any, home, is_lost, is_idle}
+use Rattle.rv_isa.specs.Conventions.{is_handed_out, one_register, header_register, is_constant_register, is_of_constant, is_in_any, home, is_lost, is_idle}
 use Rattle.rv_isa.specs.LinePlaces.{is_copy}
 use Rattle.rv_isa.specs.PlacedMachine.{unless_lost}
 use Rattle.rv_place.specs.Addresses.{stands_there, is_silent}
@@ -31,7 +31,8 @@ target_apart x n none some same = let both : is_target n ≡ true = subst (λ y.
 
 pub target_fixed : (x : ℕ) → is_target x ≡ true → is_fixed x ≡ false
 target_fixed x target =
-    or_from (x == one_register) _ (ne_eqb x one_register (target_apart x one_register refl target)) (handed_own x (target_handed x target))
+    or_from (x == one_register) _ (ne_eqb x one_register (target_apart x one_register refl target))
+    (or_from (x == header_register) _ (ne_eqb x header_register (target_apart x header_register refl target)) (handed_own x (target_handed x target)))
 
 -- ---- what a line writes
 

@@ -16,7 +16,7 @@ use Rattle.rv_isa.specs.declared.placed.Operand.{Operand}
 use Rattle.rv_isa.specs.PlacedCode.{PlacedLine, PlacedLines}
 use Rattle.rv_isa.specs.Arithmetic.{sum_word}
 use Rattle.rv_isa.specs.Primitives.{stuck, or_stuck, by_token}
-use Rattle.rv_isa.specs.Conventions.{is_handed_out, is_register, one_register, take_from, gives_into, conforms}
+use Rattle.rv_isa.specs.Conventions.{is_handed_out, is_register, one_register, header_register, take_from, gives_into, conforms}
 use Rattle.rv_isa.specs.Frames.{Frame, put, all_of, only_of, twice_of, holding, unholding, is_among}
 use Rattle.rv_isa.specs.PlacedMachine.{PlacedTurn, read_at, only_slot, first_slot, placed_goes, placed_gives, placed_acts}
 use Rattle.rv_isa.specs.Bytes.{number_at, bytes_at, with_number}
@@ -80,6 +80,9 @@ out_2 = ((λ e. cc), tt)
 
 out_one : IsOutside one_register (9 ∷ [])
 out_one = ((λ e. cc), tt)
+
+out_header : IsOutside header_register (9 ∷ [])
+out_header = ((λ e. cc), tt)
 
 out_8 : IsOutside 8 (9 ∷ [])
 out_8 = ((λ e. cc), tt)
@@ -340,7 +343,7 @@ module _ {map_of : Map} {pool : Pool} {functions : List PlacedLines} {depth buff
             shared = with_cells world (with_block word (kept words) world.cells);
           }) s t (words_to_hold at_pointer) (walks_done done)
           (runs_on map_of pool functions depth stop code parts (record { frames = f ∷ fs; registers = known; shared = world })
-          (with_block word (kept words) world.cells) s t (record behind { held = k ∷ f.held } ∷ fs) known base running done out_one
+          (with_block word (kept words) world.cells) s t (record behind { held = k ∷ f.held } ∷ fs) known base running done out_one out_header
           (links_clear inside.0 from usable) running.room (done.kept 2 out_2 ∙ running.base_is)
           (stack_kept map_of code (most_lines functions) stop (stack_end map_of depth) ground.some_frame s.registers t.registers s.memory
           (linked word newest slot_here s.memory) (s.pc + 4 * words_to_hold at_pointer) base (record behind { held = k ∷ f.held }) fs (spare_link t)
@@ -427,6 +430,9 @@ module _ {map_of : Map} {pool : Pool} {functions : List PlacedLines} {depth buff
 
     outside_one : IsOutside one_register (r.number ∷ 9 ∷ [])
     outside_one = outside one_register refl (λ e. cc) (λ e. cc)
+
+    outside_header : IsOutside header_register (r.number ∷ 9 ∷ [])
+    outside_header = outside header_register refl (λ e. cc) (λ e. cc)
 
     outside_8 : IsOutside 8 (r.number ∷ 9 ∷ [])
     outside_8 = outside 8 refl (λ e. cc) (λ e. cc)
@@ -527,7 +533,7 @@ module _ {map_of : Map} {pool : Pool} {functions : List PlacedLines} {depth buff
         }) s third.after 3 (walks_done done)
         (runs_on map_of pool functions depth stop code parts (record { frames = f ∷ fs; registers = known; shared = world })
         (with_block word (own (past_links words)) world.cells) s third.after (record behind { held = held } ∷ fs) more base running
-        done outside_one refl running.room (done.kept 2 outside_2 ∙ running.base_is)
+        done outside_one outside_header refl running.room (done.kept 2 outside_2 ∙ running.base_is)
         (stack_kept map_of code (most_lines functions) stop (stack_end map_of depth) ground.some_frame s.registers third.after.registers
         s.memory s.memory (s.pc + 4 * 3) base (record behind { held = held }) fs (spare_link third.after) (λ x low high. refl)
         (is_in_again (is_behind (s.pc + 4 * 3) refl unhold_last) f.cells held, stand.1, stand.2, stand.3))

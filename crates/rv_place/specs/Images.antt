@@ -50,9 +50,9 @@ pub record EndsWithCells (pool : Pool) (how : Ending) (world : World) (last : Pr
   pub memory : HasCells pool world.cells last.processor
   pub free : ListsFree (seen_cells world.cells) (free_list pool.cells last.processor)
 
--- what a run does beside the lines of the program: 10 instructions of the start, 5 of main's entry at most, and 3 of the exit
+-- what a run does beside the lines of the program: 11 instructions of the start, 5 of main's entry at most, and 3 of the exit
 abbrev pub outside_lines : ℕ
-outside_lines = 10 + 5 + 3
+outside_lines = 11 + 5 + 3
 
 -- A text whose image does what its program does: the runtime is that of these sizes and of the program's frames; the program can
 -- be placed; the text is the bytes of their words; and `main` is the first function.

@@ -10,7 +10,7 @@ use Rattle.rv_isa.specs.declared.placed.Place.{Place}
 use Rattle.rv_isa.specs.declared.placed.Place.TheVariants.{Register as register, Slot as slot}
 use Rattle.rv_isa.specs.declared.placed.Operand.{Operand}
 use Rattle.rv_isa.specs.PlacedCode.{PlacedLine, does, moves, PlacedLines, to_of}
-use Rattle.rv_isa.specs.Conventions.{is_handed_out, one_register, is_of_constant, may_write}
+use Rattle.rv_isa.specs.Conventions.{is_handed_out, one_register, header_register, list_header, is_of_constant, may_write}
 use Rattle.rv_isa.specs.Primitives.{go, ended, stuck}
 use Rattle.rv_isa.specs.Frames.{Frame, found}
 use Rattle.rv_isa.specs.PlacedMachine.{PlacedState, PlacedTurn, is_label_line, placed_machine}
@@ -163,6 +163,7 @@ pub record Running (map : Map) (pool : Pool) (functions : List PlacedLines) (dep
   pub frames : StackAt map code (most_lines functions) stop (stack_end map depth) s.registers s.memory s.pc base t.frames
   pub registers : Agrees t.registers s.registers
   pub one : value s.registers one_register ≡ 1
+  pub header : value s.registers header_register ≡ list_header
   pub cells : HoldsCells pool t.shared.cells (links_of map base t.frames) s
 
 -- the lines that are left of the running frame

@@ -12,5 +12,6 @@ returns c =
     (then_set c.set.ensures refl refl refl
     (then_set c.set-2.ensures refl refl refl
     (then_set c.set-3.ensures refl refl refl
-    (then_plain c.jal.ensures (same_jal refl c.new.ensures) refl)))))))
+    (then_set c.set-4.ensures refl refl refl
+    (then_plain c.jal.ensures (same_jal refl c.new.ensures) refl))))))))
     (start_makes c.args.layout)
