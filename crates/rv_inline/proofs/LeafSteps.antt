@@ -9,7 +9,7 @@ use Rattle.rv_isa.specs.declared.asm.Operation.{Operation}
 use Rattle.rv_isa.specs.declared.asm.Operation.TheVariants.{Mv}
 use Rattle.rv_isa.specs.AsmCode.{Line, Lines}
 use Rattle.rv_isa.specs.AsmMachine.{AsmTurn, bound, asm_entered, asm_goes, asm_returns, unless_held, asm_acts, asm_line, asm_line_weight}
-use Rattle.rv_isa.specs.Costs.{instructions_of, move_instructions, argument_moves, result_moves, action_instructions}
+use Rattle.rv_isa.specs.Costs.{instructions_of, move_instructions, argument_moves, spare_moves, result_moves, action_instructions}
 use Rattle.rv_isa.specs.Frames.{Frame, put, put_into, all_of, received, top}
 use Rattle.rv_isa.specs.Primitives.{Primitives, ended, or_stuck}
 use Rattle.rv_isa.specs.ValueBounds.{AreValuesBelow, IsWrittenBelow, IsLineBelow}
@@ -127,7 +127,7 @@ module _ {H E W : Type 0} (m : Primitives H E W) (copies : Copies m) (depth : �
         ≤ asm_line_weight m (f ∷ fs) shared f (line ∷ rest)
     call_weighs =
         subst (λ (action : Action). asm_line_weight m (g ∷ gs) shared g (lines_for line call rest')
-        ≤ (argument_moves action (length line.args) + result_moves line.into) * move_instructions
+        ≤ (argument_moves action (length line.args) + result_moves line.into + spare_moves action) * move_instructions
         + instructions_of m action (all_of (map f.cells line.args)) (top (f ∷ fs)) shared) (sym call.calls) (omega arith)
 
   -- ---- a line of the leaf
@@ -221,15 +221,15 @@ module _ {H E W : Type 0} (m : Primitives H E W) (copies : Copies m) (depth : �
         let operation = computing_action line.action one.0 in
         let moves : length (map (named base args) line.args) ≡ length line.args = length-map line.args (named base args) in
         subst (λ (action : Action).
-        (argument_moves action (length (map (named base args) line.args)) + result_moves (option_map (named base args) line.into))
-        * move_instructions
+        (argument_moves action (length (map (named base args) line.args)) + result_moves (option_map (named base args) line.into)
+        + spare_moves action) * move_instructions
         + instructions_of m action (all_of (map g.cells (map (named base args) line.args))) (top (g ∷ gs)) shared
-        ≤ (argument_moves action (length line.args) + result_moves line.into) * move_instructions
+        ≤ (argument_moves action (length line.args) + result_moves line.into + spare_moves action) * move_instructions
         + instructions_of m action (all_of (map h.cells line.args)) (top (h ∷ f ∷ fs)) shared) (sym operation.1)
         (subst (λ (o : Option ℕ).
-        (2 * length (map (named base args) line.args) + result_moves (option_map (named base args) o)) * move_instructions
+        (2 * length (map (named base args) line.args) + result_moves (option_map (named base args) o) + 0) * move_instructions
         + (action_instructions (Compute operation.0) + 0)
-        ≤ (2 * length line.args + result_moves o) * move_instructions + (action_instructions (Compute operation.0) + 0))
+        ≤ (2 * length line.args + result_moves o + 0) * move_instructions + (action_instructions (Compute operation.0) + 0))
         (sym into_is) (omega (arith, moves)))
 
   -- ---- the return

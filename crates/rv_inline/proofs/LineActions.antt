@@ -8,7 +8,7 @@ use Rattle.rv_isa.specs.declared.routine.Routine.{Routine as Called}
 use Rattle.rv_isa.specs.AsmCode.{Line, Lines}
 use Rattle.rv_isa.specs.AsmMachine.{AsmTurn, bound, asm_entered, asm_goes, asm_jumps, asm_returns, asm_gives, asm_served}
 use Rattle.rv_isa.specs.AsmMachine.{unless_held, asm_acts, asm_line, asm_line_weight}
-use Rattle.rv_isa.specs.Costs.{instructions_of, line_moves, move_instructions}
+use Rattle.rv_isa.specs.Costs.{instructions_of, line_moves, spare_moves, move_instructions}
 use Rattle.rv_isa.specs.Frames.{Frame, put_into, all_of, only_of, twice_of, result_of, received, found, top, taken_if, holding}
 use Rattle.rv_isa.specs.Frames.{unholding}
 use Rattle.rv_isa.specs.Primitives.{Reply, answers, ends, fails, Primitives, ended, or_stuck, by_token}
@@ -327,7 +327,7 @@ module _ {H E W : Type 0} (m : Primitives H E W) (depth : ℕ) (q q' : List Line
       → IsLike q q' base f g → AllWait q q' fs gs → IsLineBelow base line
       → asm_line_weight m (g ∷ gs) shared g (line ∷ rest') ≡ asm_line_weight m (f ∷ fs) shared f (line ∷ rest)
   line_weighs base f g fs gs shared rest rest' line like wait below =
-      ap (λ (os : List (Option ℕ)). line_moves line * move_instructions + instructions_of m line.action (all_of os)
-      (top (g ∷ gs)) shared) (same_words base line.args f.cells g.cells below.0 like.cells)
-      ∙ ap (λ (held : Option ℕ). line_moves line * move_instructions + instructions_of m line.action
-      (all_of (map f.cells line.args)) held shared) (top_same q q' base f g fs gs like wait)
+      ap (λ (os : List (Option ℕ)). (line_moves line + spare_moves line.action) * move_instructions
+      + instructions_of m line.action (all_of os) (top (g ∷ gs)) shared) (same_words base line.args f.cells g.cells below.0 like.cells)
+      ∙ ap (λ (held : Option ℕ). (line_moves line + spare_moves line.action) * move_instructions
+      + instructions_of m line.action (all_of (map f.cells line.args)) held shared) (top_same q q' base f g fs gs like wait)

@@ -288,7 +288,8 @@ fn functions_in_line(alloc: Global, functions: &[AsmFunction]) -> Result<Vec<Asm
     Ok(new)
 }
 
-/// The program with calls of leaves in line. Its code is at most `MOST_GROWTH` instructions longer.
+/// The program with calls of leaves in line: as many of them as the bound on growth and the numbers of values leave room for. The others
+/// stay calls. Its code is at most `MOST_GROWTH` instructions longer.
 pub fn in_line(alloc: Global, asm: Asm) -> Result<Asm, NoMemory>
     ensures functions { IfOk result (λ new. HasInLine (asm_functions asm) (asm_functions new)) }
     ensures short { IfOk result (λ new. functions_length (asm_functions new) ≤ functions_length (asm_functions asm) + most_growth) }

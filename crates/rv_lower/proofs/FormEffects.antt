@@ -1,7 +1,7 @@
 -- What the lines of a form do.
 use Rattle.std.proofs.Common.{◌≡◌, ◌≢◌, ◌+◌, ◌-◌, ◌*◌, ◌^◌, ◌<◌, ◌≤◌, ℕ, suc, ℤ, List, [], ◌∷◌, ◌++◌, length, map, Option, Some, None, Bool, false, not, cond, All, w32, nat_lt, int_lt, int_le, int_eq, refl, sym, ◌∙◌, ap, subst, arith, lit<, append_assoc, eq-eqb, ne_eqb}
 use Rattle.std.specs.Prelude.{bit_xor, slice_get}
-use Rattle.rv_isa.specs.Costs.{operation_instructions}
+use Rattle.rv_isa.specs.Costs.{operation_instructions, spare_moves}
 use Rattle.std.specs.Fmt.{signed_decimal}
 use Rattle.std.proofs.Math.Seq.{drop-append_seam}
 use Rattle.std.proofs.lemmas.Int.{to_z_pos}
@@ -25,6 +25,7 @@ use Rattle.rv_isa.specs.declared.asm.ShiftOperation.TheVariants as Shift
 use Rattle.rv_isa.specs.declared.immediate.Immediate.{Immediate as ImmediateWord}
 use Rattle.rv_isa.specs.declared.immediate.ShiftAmount.{ShiftAmount}
 use Rattle.rv_isa.specs.declared.routine.Routine.{Routine}
+use Rattle.rv_isa.specs.declared.routine.Routine.TheVariants.{Take, Drop, PrintInt, PrintText, ReadByte}
 use Rattle.rv_isa.specs.Arithmetic.{signed, bit_of, sum_word, difference_word, shift_left, product_word, quotient_signed, remainder_signed}
 use Rattle.rv_isa.specs.Processor.{Ending}
 use Rattle.rv_isa.specs.AsmCode.{Line}
@@ -307,6 +308,14 @@ module _ (target : Target) where
 
   -- ---- routines
 
+  -- a routine that answers two words is no drop
+  no_drop : (routine : Routine) (first second : ℕ) (world next : World) → (Runs.world_primitives target).serve routine (first ∷ second ∷ []) None world ≡ answers 0 next false → spare_moves (Action.Routine routine) ≡ 0
+  no_drop Take first second world next serves = refl
+  no_drop Drop first second world next serves = cc serves
+  no_drop PrintInt first second world next serves = refl
+  no_drop PrintText first second world next serves = refl
+  no_drop ReadByte first second world next serves = refl
+
   -- a routine that leaves the values as they are
   routine_runs : (routine : Routine) (a b first second : ℕ) (whole : Function) (rest : List Line) (cells : ℕ → Option ℕ) (into : Option ℕ) (fs : List (Frame Line)) (world : World) (events : List Event) → cells a ≡ Some first → cells b ≡ Some second
       → ((held : Option ℕ) → (Runs.world_primitives target).serve routine (first ∷ second ∷ []) held world ≡ answers 0 (told_more events world) false)
@@ -316,7 +325,7 @@ module _ (target : Target) where
       Runs.line_runs target print_cost whole (acts (Action.Routine routine) (a ∷ b ∷ [])) rest cells into fs world (first ∷ second ∷ []) events (turn_at whole rest cells into fs (told_more events world))
       (reads_two cells a b first second at_a at_b)
       (ap (λ (reply : Reply World Ending). asm_served None (frame_at whole rest cells into ∷ fs) reply) (serves _))
-      (λ held. omega (arith, light held)) (drop-append_seam world.trace events)
+      (λ held. omega (arith, light held, no_drop routine first second world (told_more events world) (serves None))) (drop-append_seam world.trace events)
 
   -- two arguments are made, a routine is called, and the value is `()`
   routine_performs : (routine : Routine) (n : ℕ) (first_lines : List Line) (a b base x first second : ℕ) (events : List Event) (cells middle : ℕ → Option ℕ) (world : World) → n ≤ 2 → Changes n first_lines cells middle → ((z : ℕ) → z < base → middle z ≡ cells z)

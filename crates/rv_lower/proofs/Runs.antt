@@ -13,7 +13,7 @@ use Rattle.rv_isa.specs.AsmCode.{Line, Lines}
 use Rattle.rv_isa.specs.AsmMachine.{AsmTurn, asm_acts, asm_next, asm_machine, asm_told, asm_goes}
 use Rattle.rv_isa.specs.declared.asm.Action.TheVariants.{Routine}
 use Rattle.rv_isa.specs.declared.routine.Routine.TheVariants.{PrintInt}
-use Rattle.rv_isa.specs.Costs.{operation_instructions, action_instructions, move_instructions, instructions_of, line_moves}
+use Rattle.rv_isa.specs.Costs.{operation_instructions, action_instructions, move_instructions, instructions_of, line_moves, spare_moves}
 use Rattle.rv_isa.specs.Frames.{Frame, put, put_into, all_of, top}
 use Rattle.rv_isa.specs.Primitives.{Primitives, go, ended, stuck, or_stuck}
 use Rattle.cell_heap.specs.Pool.{Pool}
@@ -107,7 +107,7 @@ module _ (target : Target) where
   pub line_runs : (cost : ℕ) (whole : Function) (line : Line) (rest : List Line) (cells : ℕ → Option ℕ) (into : Option ℕ) (fs : List (Frame Line)) (world : World) (words : List ℕ) (events : List Event) (u : AsmTurn World Ending)
       → all_of (map cells line.args) ≡ Some words
       → asm_acts world_primitives target.depth target.functions (frame_at whole rest cells into) fs world line.action line.args line.into words ≡ u
-      → ((held : Option ℕ) → line_moves line + instructions_of world_primitives line.action (Some words) held world ≤ cost)
+      → ((held : Option ℕ) → line_moves line + spare_moves line.action + instructions_of world_primitives line.action (Some words) held world ≤ cost)
       → drop (length world.trace) (asm_told world_primitives u) ≡ events
       → Runs cost 1 events (turn_at whole (line ∷ rest) cells into fs world) u
   line_runs cost whole line rest cells into fs world words events u words_are acts light told_are =
@@ -117,8 +117,8 @@ module _ (target : Target) where
       let told : drop (length world.trace) (asm_told world_primitives (asm_next world_primitives target.depth target.functions t)) ≡ events
       = ap (λ (s : AsmTurn World Ending). drop (length world.trace) (asm_told world_primitives s)) next ∙ told_are in
       let held : Option ℕ = top (frame_at whole (line ∷ rest) cells into ∷ fs) in
-      let weighs : machine.weight t ≡ line_moves line * 1 + instructions_of world_primitives line.action (Some words) held world
-      = ap (λ o. line_moves line * 1 + instructions_of world_primitives line.action o held world) words_are in
+      let weighs : machine.weight t ≡ (line_moves line + spare_moves line.action) * 1 + instructions_of world_primitives line.action (Some words) held world
+      = ap (λ o. (line_moves line + spare_moves line.action) * 1 + instructions_of world_primitives line.action o held world) words_are in
       record {
         within = omega (arith, weighs, light held);
         events_are = append-nil (drop (length world.trace) (asm_told world_primitives (asm_next world_primitives target.depth target.functions t))) ∙ told;

@@ -6,7 +6,7 @@ use Rattle.std.proofs.lemmas.Bool.{eqb-true, ne_eqb, cond-true, cond-false, case
 use Rattle.rv_isa.specs.declared.register.Register.{Register}
 use Rattle.rv_isa.specs.declared.placed.Place.{Place}
 use Rattle.rv_isa.specs.declared.placed.Place.TheVariants.{Register as register, Slot as slot}
-use Rattle.rv_isa.specs.Conventions.{is_handed_out, one_register, is_constant_register, is_register, argument}
+use Rattle.rv_isa.specs.Conventions.{is_handed_out, one_register, header_register, is_constant_register, is_register, argument}
 use Rattle.rv_isa.specs.Frames.{is_among}
 use Rattle.rv_isa.specs.PlacedMachine.{number_of}
 use Rattle.rv_regs.specs.declared.slots.Loaded.{Loaded}
@@ -184,11 +184,14 @@ number_is n small = mod-eq_of_lt small
 numbers_differ : (n k : ℕ) → k < 32 → suc n ≤ k → (numbered n).number ≢ (numbered k).number
 numbers_differ n k small less e = omega (arith, number_is n (omega arith), number_is k small, e)
 
--- a register from x4 on holds no word always
-high_variable : (x : ℕ) → 4 ≤ x → is_constant_register x ≡ false
-high_variable x high = or_from (0 == x) _ (ne_eqb 0 x (λ e. omega (arith, e))) (or_from (one_register == x) false (ne_eqb one_register x (λ e. omega (arith, e))) refl)
+-- no register from x4 to x19 holds a word always
+is_variable : (x : ℕ) → 4 ≤ x → x < header_register → is_constant_register x ≡ false
+is_variable x low high =
+    or_from (0 == x) _ (ne_eqb 0 x (λ e. omega (arith, e)))
+    (or_from (one_register == x) _ (ne_eqb one_register x (λ e. omega (arith, e)))
+    (or_from (header_register == x) false (ne_eqb header_register x (λ e. omega (arith, e))) refl))
 
-pub loads_are : (n : ℕ) (vs : List ℕ) → 4 ≤ n → n + length vs ≤ 32 → ((k : ℕ) → n ≤ k → k < n + length vs → is_handed_out k ≡ true) → AreLoads (load_from n vs)
+pub loads_are : (n : ℕ) (vs : List ℕ) → 4 ≤ n → n + length vs ≤ header_register → ((k : ℕ) → n ≤ k → k < n + length vs → is_handed_out k ≡ true) → AreLoads (load_from n vs)
 loads_are n [] high few handed = tt
 loads_are n (v ∷ vs) high few handed =
     let later = loads_are (suc n) vs (omega arith) (omega arith) (λ k low high. handed k (omega arith) (omega arith)) in
@@ -198,7 +201,7 @@ loads_are n (v ∷ vs) high few handed =
       all_both (λ (m : Loaded). v ≢ m.value) (λ (m : Loaded). (numbered n).number ≢ m.register.number) (Differ l) (load_from (suc n) vs) (λ m a b. (a, b))
           (load_values (λ u. v ≢ u) (suc n) vs (λ u there same. false≢true (sym t ∙ ap (λ w. is_among w vs) same ∙ there)))
           (load_numbers (λ k. (numbered n).number ≢ k) (suc n) vs (λ k low high. numbers_differ n k (omega arith) low)),
-      ((ap is_handed_out (number_is n (omega arith)) ∙ handed n (omega arith) (omega arith), ap not (high_variable (numbered n).number (omega (arith, number_is n (omega arith))))), later),
+      ((ap is_handed_out (number_is n (omega arith)) ∙ handed n (omega arith) (omega arith), ap not (is_variable (numbered n).number (omega (arith, number_is n (omega arith))) (omega (arith, number_is n (omega arith))))), later),
     ))
 
 pub once_loaded : (n v : ℕ) (vs : List ℕ) → is_among v vs ≡ false → load_from n (v ∷ vs) ≡ record { value = v; register = numbered n } ∷ load_from (suc n) vs

@@ -2,12 +2,13 @@
 use Rattle.std.proofs.Common.{◌≡◌, ◌≤◌, ◌+◌, ◌-◌, ◌*◌, ℕ, zero, suc, List, [], ◌∷◌, Option, Some, None, Bool, true, false, cond, slice_get, length, nat_le, refl, sym, ◌∙◌, ap, subst, arith, map, option_map}
 use Rattle.rv_isa.specs.declared.asm.Action.{Action}
 use Rattle.rv_isa.specs.declared.asm.Action.TheVariants.{Compute, Label, Jump, Branch, Call, TailCall, Return, Routine, Hold, Unhold, Room}
+use Rattle.rv_isa.specs.declared.routine.Routine.TheVariants.{Drop}
 use Rattle.rv_isa.specs.declared.placed.Listed.{Listed}
 use Rattle.rv_isa.specs.declared.placed.Operand.{Operand}
 use Rattle.rv_isa.specs.PlacedCode.{PlacedLine, does, moves, PlacedLines}
 use Rattle.rv_isa.specs.Primitives.{Reply, answers, ends, fails, Primitives, ended, stuck, or_stuck, by_token}
 use Rattle.rv_isa.specs.Conventions.{conforms}
-use Rattle.rv_isa.specs.Costs.{argument_moves, result_moves, move_instructions}
+use Rattle.rv_isa.specs.Costs.{argument_moves, spare_moves, result_moves, move_instructions}
 use Rattle.rv_isa.specs.Frames.{Frame, empty, put, all_of, found, top, top_taken, taken_in, taken_if, only_of, twice_of, result_of, received, holding, unholding}
 use Rattle.rv_isa.specs.AsmMachine.{is_label, unless_held}
 use Rattle.rv_isa.specs.PlacedMachine.{PlacedTurn, is_label_line, read_at, kept_by, passed, awaited, only_slot, first_slot, placed_entered, placed_goes, unless_lost, placed_gives, placed_jumps, placed_returns, placed_answered, placed_served, placed_acts, placed_line}
@@ -20,11 +21,12 @@ argument_stores (Call f) count = count
 argument_stores (TailCall f) count = count
 argument_stores _ count = 0
 
--- each argument that is not in its slot is loaded, and may be stored
-pub moves_are : (action : Action) (count : ℕ) → argument_moves action count ≡ argument_loads action count + argument_stores action count
+-- each argument that is not in its slot is loaded, and may be stored; before a drop one move more may stand
+pub moves_are : (action : Action) (count : ℕ) → argument_moves action count + spare_moves action ≡ argument_loads action count + argument_stores action count
 moves_are (Compute operation) count = omega arith
 moves_are (Call f) count = omega arith
 moves_are (TailCall f) count = omega arith
+moves_are (Routine Drop) count = omega arith
 moves_are action count = omega arith
 
 -- a function that is called has no more parameters than there are arguments

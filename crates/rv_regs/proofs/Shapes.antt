@@ -7,7 +7,8 @@ use Rattle.std.proofs.lemmas.List.Elements.{All-weaker}
 use Rattle.kk_base.specs.Limits.{greatest_of}
 use Rattle.kk_base.specs.declared.limit.LimitKind.TheVariants.{Parameters}
 use Rattle.rv_isa.specs.declared.asm.Action.{Action}
-use Rattle.rv_isa.specs.declared.asm.Action.TheVariants.{Compute, Call, TailCall, Hold, Unhold}
+use Rattle.rv_isa.specs.declared.asm.Action.TheVariants.{Compute, Call, TailCall, Routine, Hold, Unhold}
+use Rattle.rv_isa.specs.declared.routine.Routine.TheVariants.{Drop}
 use Rattle.rv_isa.specs.declared.placed.Place.{Place}
 use Rattle.rv_isa.specs.declared.placed.Place.TheVariants.{Register as register, Slot as slot}
 use Rattle.rv_isa.specs.declared.placed.Operand.{Operand}
@@ -38,10 +39,21 @@ few_loads n (v ∷ vs) =
     let later = few_loads (suc n) vs in
     cond_both (is_among v vs) (load_from (suc n) vs) (record { value = v; register = numbered n } ∷ load_from (suc n) vs) (λ (ls : List Loaded). length ls ≤ suc (length vs)) (λ t. omega (arith, later)) (λ t. omega (arith, later))
 
+-- what is loaded for an action is within the moves that may stand before it
 few_loaded_for : (action : Action) (args : List ℕ) → length (loaded_for action args) ≤ argument_loads action (length args)
 few_loaded_for Hold args = omega (arith, few_loads (first_register Hold) (register_args Hold args), few_register_args Hold args)
 few_loaded_for Unhold args = omega arith
+few_loaded_for (Routine Drop) args = omega (arith, few_loads (first_register (Routine Drop)) args)
 few_loaded_for action args = few_loads (first_register action) args
+
+-- and within those that are counted where its line is written
+short_loaded_for : (action : Action) (args : List ℕ) → length (loaded_for action args) ≤ argument_moves action (length args)
+short_loaded_for (Compute operation) args = omega (arith, few_loads (first_register (Compute operation)) args)
+short_loaded_for (Call f) args = omega (arith, few_loads (first_register (Call f)) args)
+short_loaded_for (TailCall f) args = omega (arith, few_loads (first_register (TailCall f)) args)
+short_loaded_for Hold args = few_loaded_for Hold args
+short_loaded_for Unhold args = omega arith
+short_loaded_for action args = few_loads (first_register action) args
 
 many_operands : (action : Action) (loaded : List Loaded) (args : List ℕ) → length (operands_for action loaded args) ≡ length args
 many_operands Hold loaded [] = refl
@@ -62,12 +74,6 @@ few_pending : (action : Action) (into : Option ℕ) (behind : List ℕ) → leng
 few_pending action None behind = omega arith
 few_pending action (Some v) behind =
     cond_both (is_among v behind) (record { value = v; register = numbered (result_register action) } ∷ []) [] (λ (ls : List Loaded). length ls ≤ 1) (λ t. omega arith) (λ t. omega arith)
-
-moves_enough : (action : Action) (count : ℕ) → argument_loads action count ≤ argument_moves action count
-moves_enough (Compute operation) count = omega arith
-moves_enough (Call f) count = omega arith
-moves_enough (TailCall f) count = omega arith
-moves_enough action count = omega arith
 
 -- ---- moves in a row
 
@@ -155,8 +161,7 @@ length_code (line ∷ rest) formed =
     omega (
       arith,
       length_loads (lists_before (line ∷ rest)) (loaded_for line.action line.args) (line_and_more line rest),
-      few_loaded_for line.action line.args,
-      moves_enough line.action (length line.args),
+      short_loaded_for line.action line.args,
       few_pending line.action line.into (alive_values rest),
       length_stores (lists_before rest) (pending line.action line.into (alive_values rest)) (placed_code rest),
       length_code rest formed.1,

@@ -17,7 +17,7 @@ use Rattle.rv_isa.specs.AsmCode.{Line, Lines}
 use Rattle.rv_isa.specs.PlacedCode.{PlacedLine, does, moves, PlacedLines, from_of, to_of}
 use Rattle.rv_isa.specs.Primitives.{Primitives, go, ended, stuck, or_stuck, end_of}
 use Rattle.rv_isa.specs.Conventions.{conforms}
-use Rattle.rv_isa.specs.Costs.{instructions_of, move_instructions, argument_moves, result_moves}
+use Rattle.rv_isa.specs.Costs.{instructions_of, move_instructions, argument_moves, spare_moves, result_moves}
 use Rattle.rv_isa.specs.Frames.{Frame, empty, all_of, top, is_among}
 use Rattle.rv_isa.specs.AsmMachine.{AsmTurn, asm_acts, asm_line, asm_told, asm_line_weight, asm_start, bound}
 use Rattle.rv_isa.specs.PlacedMachine.{PlacedState, PlacedTurn, read_at, registers_with, slots_with, is_held, placed_acts, placed_line, placed_next, placed_machine, placed_told, placed_weight, placed_line_weight, placed_start}
@@ -120,7 +120,7 @@ module _ {H E W : Type 0} (m : Primitives H E W) (depth : ℕ) (asm : List Lines
   -- a statement weighs as much in both machines, but for the moves that it pays for
   weighs_same : (alive : List Listed) (action : Action) (args : List Operand) (into : Option Operand) (rest : List PlacedLine) (registers : ℕ → Option ℕ) (shared : H) (f : Frame Line) (fs : List (Frame Line)) (g : Frame PlacedLine) (gs : List (Frame PlacedLine))
       → g.code ≡ does alive action args into ∷ rest → Stands (first_alive g.code) registers f g → AllWait fs gs
-      → placed_line_weight m (g ∷ gs) registers shared g g.code + (argument_moves action (length args) + result_moves into) * move_instructions ≡ asm_line_weight m (f ∷ fs) shared f f.code
+      → placed_line_weight m (g ∷ gs) registers shared g g.code + (argument_moves action (length args) + result_moves into + spare_moves action) * move_instructions ≡ asm_line_weight m (f ∷ fs) shared f f.code
   weighs_same alive action args into rest registers shared f fs g gs at stands waits =
       let stands' : Stands alive registers f g = subst (λ (c : List PlacedLine). Stands (first_alive c) registers f g) at stands in
       let fit : AllFit g.whole (does alive action args into ∷ rest) = subst (λ (c : List PlacedLine). AllFit g.whole c) at stands.same.code_fits in
@@ -128,7 +128,7 @@ module _ {H E W : Type 0} (m : Primitives H E W) (depth : ℕ) (asm : List Lines
       let same : map f.cells (map value_of args) ≡ map (λ (arg : Operand). read_at registers g.cells arg.place) args = words_at alive f.cells registers g.cells args stands'.holds fit.0.1.stand in
       let a : placed_line_weight m (g ∷ gs) registers shared g g.code ≡ instructions_of m action (all_of (map (λ (arg : Operand). read_at registers g.cells arg.place) args)) (top (g ∷ gs)) shared = ap (placed_line_weight m (g ∷ gs) registers shared g) at in
       let b : asm_line_weight m (f ∷ fs) shared f f.code
-      ≡ (argument_moves action (length (map value_of args)) + result_moves (option_map value_of into)) * move_instructions + instructions_of m action (all_of (map f.cells (map value_of args))) (top (f ∷ fs)) shared
+      ≡ (argument_moves action (length (map value_of args)) + result_moves (option_map value_of into) + spare_moves action) * move_instructions + instructions_of m action (all_of (map f.cells (map value_of args))) (top (f ∷ fs)) shared
       = ap (asm_line_weight m (f ∷ fs) shared f) here in
       let c : instructions_of m action (all_of (map f.cells (map value_of args))) (top (f ∷ fs)) shared ≡ instructions_of m action (all_of (map (λ (arg : Operand). read_at registers g.cells arg.place) args)) (top (g ∷ gs)) shared
       = ap (λ ws. instructions_of m action (all_of ws) (top (f ∷ fs)) shared) same ∙ ap (λ held. instructions_of m action (all_of (map (λ (arg : Operand). read_at registers g.cells arg.place) args)) held shared) (top_same alive registers f fs g gs stands' waits) in

@@ -97,7 +97,7 @@ lines_there asm placed all f k has =
     has.1.1.1.1 in
     (p.0, (p.1, (there.0, (ap (slice_get p.0.code) (line_of_is placed f p.0 p.1 k) ∙ there.1.0, some_is_instruction there.0 there.1.1))))
 
--- and each that is no test besides has one that is none either
+-- and each own line has one that is an own line too
 pub own_lines_there : (asm : List Lines) (placed : List PlacedLines) → ArePlacings asm placed → (f k : ℕ) → AsmHasOwnLine asm f k
     → PlacedHasOwnLine placed f (line_of placed f k)
 own_lines_there asm placed all f k has =

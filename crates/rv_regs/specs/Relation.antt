@@ -3,7 +3,8 @@ use Rattle.std.specs.Prelude.{◌≡◌, ◌≢◌, ◌⊎◌, ◌≤◌, ◌+�
 use Rattle.std.specs.List.{AllByRecursion}
 use Rattle.kk_base.specs.Machines.{Machine, state}
 use Rattle.rv_isa.specs.declared.asm.Action.{Action}
-use Rattle.rv_isa.specs.declared.asm.Action.TheVariants.{Compute, Unhold}
+use Rattle.rv_isa.specs.declared.asm.Action.TheVariants.{Compute, Routine, Unhold}
+use Rattle.rv_isa.specs.declared.routine.Routine.TheVariants.{Drop}
 use Rattle.rv_isa.specs.declared.placed.Place.{Place}
 use Rattle.rv_isa.specs.declared.placed.Place.TheVariants.{Slot as slot}
 use Rattle.rv_isa.specs.declared.placed.Operand.{Operand}
@@ -95,12 +96,15 @@ leading [] = 0
 leading (does alive action args into ∷ code) = 0
 leading (moves alive value way ∷ code) = suc (leading code)
 
--- the moves for so many arguments: a token that is taken back is in its slot
+-- the moves for so many arguments: a token that is taken back is in its slot; of a drop one move more, with which a value leaves the
+-- register that it takes its reference in
 abbrev pub argument_loads : Action → ℕ → ℕ
 argument_loads Unhold count = 0
+argument_loads (Routine Drop) count = suc count
 argument_loads action count = count
 
--- the moves that may stand before the first statement of code, for its arguments: loads, and of a Hold a store and a load
+-- the moves that may stand before the first statement of code, for its arguments: loads, of a Hold a store and a load, and of a drop
+-- a load and a copy
 abbrev pub first_args : List PlacedLine → ℕ
 first_args [] = 0
 first_args (does alive action args into ∷ code) = argument_loads action (length args)

@@ -4,8 +4,8 @@ use crate::liveness::{Point, alive_at, is_one_of};
 use crate::places::listing;
 use crate::plans::{Care, Copied, Due, Plans};
 use crate::state::{
-    NUMBERS, any_register, is_copied_in, is_free, is_in_slot, is_to_be_had, register_of,
-    same_state, stands_in, state_at, without_copy_in,
+    NUMBERS, any_register, is_copied_in, is_in_slot, is_to_be_had, is_used, register_of,
+    same_state, stands_in, state_at, used_registers, without_copy_in,
 };
 use kk_base::NoMemory;
 use rv_isa::{Action, Item, Listed, Place, Register, Way};
@@ -107,13 +107,12 @@ pub fn make_way(alloc: Global, walk: &mut Walk, listed: Listed) -> Result<(), No
 fn reach(alloc: Global, walk: &mut Walk, goals: &[Listed], care: &Care) -> Result<(), NoMemory> {
     store_for(alloc, walk, goals, care)?;
     for _ in 0..64_u32 {
-        match next_move(&walk.state, goals) {
-            Some(next) => put_away(alloc, walk, next.listed, next.to)?,
-            None => {
-                if let Some(listed) = next_in_the_way(&walk.state, goals) {
-                    make_way(alloc, walk, listed)?;
-                }
-            }
+        if let Some(next) = next_move(&walk.state, goals) {
+            put_away(alloc, walk, next.listed, next.to)?;
+        } else if let Some(listed) = next_in_the_way(&walk.state, goals) {
+            make_way(alloc, walk, listed)?;
+        } else {
+            return Ok(());
         }
     }
     Ok(())
@@ -148,7 +147,7 @@ fn on_both_ways(goal: Listed, listed: Listed) -> Listed {
 
 // Where values stand on both ways.
 fn joined(alloc: Global, goals: &[Listed], state: &[Listed]) -> Result<Vec<Listed>, NoMemory> {
-    let mut next = Vec::new(alloc);
+    let mut next = Vec::with_capacity(alloc, goals.len())?;
     for goal in goals {
         match listing(state, goal.value) {
             Some(listed) => next.push(on_both_ways(*goal, listed))?,
@@ -373,7 +372,7 @@ fn state_moved(
     way: Way,
     after: Listed,
 ) -> Result<Vec<Listed>, NoMemory> {
-    let mut next = Vec::new(alloc);
+    let mut next = Vec::with_capacity(alloc, state.len())?;
     for listed in state {
         if listed.value == after.value {
             next.push(after)?;
@@ -391,7 +390,7 @@ fn state_moved(
 
 // The listings, where a value is listed as `after`.
 fn state_listing(alloc: Global, state: &[Listed], after: Listed) -> Result<Vec<Listed>, NoMemory> {
-    let mut next = Vec::new(alloc);
+    let mut next = Vec::with_capacity(alloc, state.len())?;
     for listed in state {
         next.push(if listed.value == after.value {
             after
@@ -491,25 +490,25 @@ fn longest_alive(state: &[Listed], keep: &[u32]) -> Option<u32> {
     None
 }
 
-// Whether a value is to be in the register at the next label ahead that tells where values stand.
-fn is_awaited(walk: &Walk, register: Register) -> bool {
+// Where values stand at the next label ahead that tells it.
+fn awaited(walk: &Walk) -> &[Listed] {
     for label in &walk.ahead {
         for kept in &walk.kept {
             if kept.label == *label {
-                return !is_free(&kept.state, register);
+                return &kept.state;
             }
         }
     }
-    false
+    &[]
 }
 
 // A free register that no value is to be in there.
 fn quiet_register(walk: &Walk) -> Option<Register> {
+    let used = used_registers(&walk.state);
+    let awaited = used_registers(awaited(walk));
     for number in NUMBERS {
-        if let Some(register) = Register::try_new(number) {
-            if is_free(&walk.state, register) && !is_awaited(walk, register) {
-                return Some(register);
-            }
+        if !is_used(&used, number) && !is_used(&awaited, number) {
+            return Register::try_new(number);
         }
     }
     None

@@ -7,11 +7,13 @@ use crate::joins::{
 use crate::keeping::may_spoil;
 use crate::liveness::{copy_of, is_one_of};
 use crate::places::listing;
-use crate::plans::{Care, Due, Plan, Plans, goes_on, named_label, plans_of, spoils_many};
+use crate::plans::{
+    Care, Due, Plan, Plans, goes_on, named_label, plans_of, spoils_many, spoils_some,
+};
 use crate::state::{
-    argument_register, is_free, is_in, is_to_be_had, is_wished_for, operands_at, register_of,
-    same_state, standing_in, stands_in, state_at, state_behind, state_clear_of, state_without,
-    wished_register,
+    argument_register, is_copied_in, is_free, is_in, is_to_be_had, is_wished_for, operands_at,
+    register_of, same_state, standing_in, stands_in, state_at, state_behind, state_clear_of,
+    state_without, wished_register,
 };
 use kk_base::NoMemory;
 use rv_isa::{
@@ -260,6 +262,8 @@ fn arrange(alloc: Global, walk: &mut Walk, args: &[u32]) -> Result<(), NoMemory>
             }
         } else if let Some(listed) = next_in_the_way(&walk.state, args) {
             make_way(alloc, walk, listed)?;
+        } else {
+            return Ok(());
         }
     }
     Ok(())
@@ -403,7 +407,13 @@ fn put_result(
     behind: &Plan,
     care: &Care,
 ) -> Result<(), NoMemory> {
-    walk.state = state_clear_of(alloc, &walk.state, register)?;
+    if walk
+        .state
+        .iter()
+        .any(|listed| is_copied_in(*listed, register))
+    {
+        walk.state = state_clear_of(alloc, &walk.state, register)?;
+    }
     if is_one_of(into.value, &behind.point.alive) {
         let listed = Listed {
             value: into.value,
@@ -417,10 +427,12 @@ fn put_result(
     Ok(())
 }
 
-// The loads that may stand before a statement. A token that is taken back is in its slot.
+// The moves that may stand before a statement, for its arguments. A token that is taken back is in its slot. Before a drop one more may
+// stand, with which a value leaves the register that it takes its reference in.
 fn loads_before(statement: &Statement) -> usize {
     match statement.action {
         Action::Unhold => 0,
+        Action::Routine(Routine::Drop) => statement.args.len().saturating_add(1),
         _ => statement.args.len(),
     }
 }
@@ -448,14 +460,18 @@ fn put_line(
     let action = statement.action;
     let alive = same_state(alloc, &walk.state)?;
     let args = operands_at(alloc, &walk.state, action, &statement.args)?;
-    let unspoilt = state_behind(alloc, &walk.state, action)?;
-    walk.state = state_at(alloc, &unspoilt, &behind.point)?;
+    if spoils_some(action) {
+        walk.state = state_behind(alloc, &walk.state, action)?;
+    }
+    walk.state = state_at(alloc, &walk.state, &behind.point)?;
     walk.left = moves_behind(statement);
     walk.moved = Vec::new(alloc);
     walk.excess = 0;
     match statement.into {
         Some(value) => {
-            walk.state = state_without(alloc, &walk.state, value)?;
+            if listing(&walk.state, value).is_some() {
+                walk.state = state_without(alloc, &walk.state, value)?;
+            }
             let register = result_for(walk, action, &args, value, behind)?;
             let place = Place::Register(register);
             let into = Operand { value, place };

@@ -159,12 +159,14 @@ fn stores_of(action: Action, args: &[Operand], into: Option<Operand>) -> usize
     }
 }
 
-// The loads that may stand before a line with so many arguments: a token that is taken back is in its slot.
+// The moves that may stand before a line for so many arguments: a token that is taken back is in its slot; before a drop one more may
+// stand, with which a value leaves the register that it takes its reference in.
 fn loads_of(action: Action, args: &[Operand]) -> usize
     ensures { result ≡ argument_loads action (length args.now) }
 {
     match action {
         Action::Unhold => 0,
+        Action::Routine(Routine::Drop) => args.len() + 1,
         _ => args.len(),
     }
 }

@@ -63,7 +63,7 @@ impl Numbers {
     }
 
     fn listings(&self, alloc: Global, alive: &[Listed]) -> Result<Vec<Listed>, NoMemory> {
-        let mut next = Vec::new(alloc);
+        let mut next = Vec::with_capacity(alloc, alive.len())?;
         for listed in alive {
             next.push(Listed {
                 place: self.place(listed.place),
@@ -81,7 +81,7 @@ impl Numbers {
     }
 
     fn operands(&self, alloc: Global, args: &[Operand]) -> Result<Vec<Operand>, NoMemory> {
-        let mut next = Vec::new(alloc);
+        let mut next = Vec::with_capacity(alloc, args.len())?;
         for arg in args {
             next.push(self.operand(*arg))?;
         }
@@ -199,7 +199,7 @@ pub fn with_tokens_first(
     placed: &PlacedFunction,
 ) -> Result<PlacedFunction, NoMemory> {
     let numbers = numbers_of(alloc, &placed.code)?;
-    let mut code = Vec::new(alloc);
+    let mut code = Vec::with_capacity(alloc, placed.code.len())?;
     for item in &placed.code {
         code.push(numbers.item(alloc, item)?)?;
     }

@@ -128,8 +128,8 @@ pub fn goes_on(action: Action) -> bool {
     )
 }
 
-// Whether the action spoils registers.
-fn spoils_some(action: Action) -> bool {
+/// Whether the action spoils registers.
+pub fn spoils_some(action: Action) -> bool {
     matches!(action, Action::Call(_) | Action::Routine(_))
 }
 
@@ -192,6 +192,22 @@ fn early_of(alloc: Global, values: &[u32], care: &Care) -> Result<Vec<u32>, NoMe
     )
 }
 
+// The values before a statement, by those behind it and those that it adds: its result is none of them.
+fn values_before(behind: Vec<u32>, here: &[u32], into: Option<u32>) -> Result<Vec<u32>, NoMemory> {
+    let mut values = behind;
+    if let Some(into) = into {
+        if let Some(index) = values.iter().position(|value| *value == into) {
+            values.remove(index);
+        }
+    }
+    for value in here {
+        if !is_one_of(*value, &values) {
+            values.push(*value)?;
+        }
+    }
+    Ok(values)
+}
+
 // What comes to have to be in its slot before a statement.
 fn slotted_by(alloc: Global, statement: &Statement, behind: &[u32]) -> Result<Vec<u32>, NoMemory> {
     match statement.action {
@@ -232,7 +248,7 @@ fn crossing_before(
 ) -> Result<Vec<u32>, NoMemory> {
     let later = alive_behind(alloc, statement.action, &walk.at.crossing, &walk.crossing)?;
     let here = crossing_by(alloc, statement, behind)?;
-    alive_before(alloc, &here, statement.into, &later)
+    values_before(later, &here, statement.into)
 }
 
 // The values that a statement computes with, or branches by. A copy of a value in a register saves nothing where that is copied again:
@@ -252,7 +268,7 @@ fn read_before(alloc: Global, walk: &Walk, statement: &Statement) -> Result<Vec<
         action if spoils_some(action) => Vec::new(alloc),
         action => alive_behind(alloc, action, &walk.at.read, &walk.read)?,
     };
-    alive_before(alloc, read_by(statement), statement.into, &later)
+    values_before(later, read_by(statement), statement.into)
 }
 
 // The values that come to a label to which more than one way leads, by those behind a statement.
@@ -287,7 +303,7 @@ fn joining_before(
         alive_behind(alloc, action, &walk.at.joining, &walk.joining)?
     };
     let here = joining_by(alloc, walk, action, behind, lone)?;
-    alive_before(alloc, &here, statement.into, &later)
+    values_before(later, &here, statement.into)
 }
 
 // The values that both lists have.
@@ -319,26 +335,18 @@ fn worth_of(action: Action) -> u32 {
     }
 }
 
-// The wishes with one more. Of two for one value, the one of more worth stays.
-fn with_wish(alloc: Global, wishes: &[Wish], wish: Wish) -> Result<Vec<Wish>, NoMemory> {
-    let mut next = Vec::new(alloc);
-    let mut is_new = true;
-    for other in wishes {
+// Adds a wish. Of two for one value, the one of more worth stays.
+fn add_wish(wishes: &mut Vec<Wish>, wish: Wish) -> Result<(), NoMemory> {
+    for other in wishes.iter_mut() {
         if other.value == wish.value {
-            is_new = false;
-            next.push(if other.worth < wish.worth {
-                wish
-            } else {
-                *other
-            })?;
-        } else {
-            next.push(*other)?;
+            if other.worth < wish.worth {
+                *other = wish;
+            }
+            return Ok(());
         }
     }
-    if is_new {
-        next.push(wish)?;
-    }
-    Ok(next)
+    wishes.push(wish)?;
+    Ok(())
 }
 
 fn wishes_at<'a>(points: &'a [LabelWishes], label: u32) -> &'a [Wish] {
@@ -360,7 +368,7 @@ fn wishes_behind(alloc: Global, walk: &Walk, action: Action) -> Result<Vec<Wish>
         Action::Branch(_, label) => {
             wishes.extend_from_slice(&walk.at.wishes)?;
             for wish in wishes_at(&walk.wishes, label) {
-                wishes = with_wish(alloc, &wishes, *wish)?;
+                add_wish(&mut wishes, *wish)?;
             }
         }
         Action::TailCall(_) | Action::Return => {}
@@ -388,7 +396,6 @@ fn copied_wish(walk: &Walk, statement: &Statement, wish: Wish) -> Option<Wish> {
 // The wishes with those for the arguments of a statement that are taken in their registers. One that is read on behind the statement
 // wishes for none of them, since the statement may spoil it.
 fn with_arguments(
-    alloc: Global,
     wishes: Vec<Wish>,
     statement: &Statement,
     behind: &[u32],
@@ -404,7 +411,7 @@ fn with_arguments(
                 register,
                 worth: worth_of(statement.action),
             };
-            next = with_wish(alloc, &next, wish)?;
+            add_wish(&mut next, wish)?;
         }
     }
     Ok(next)
@@ -418,9 +425,10 @@ fn wishes_before(
     behind: &[u32],
 ) -> Result<Vec<Wish>, NoMemory> {
     let action = statement.action;
-    let mut wishes = Vec::new(alloc);
+    let later = wishes_behind(alloc, walk, action)?;
+    let mut wishes = Vec::with_capacity(alloc, later.len())?;
     let mut copied = None;
-    for wish in &wishes_behind(alloc, walk, action)? {
+    for wish in &later {
         if let Some(wish) = copied_wish(walk, statement, *wish) {
             copied = Some(wish);
         }
@@ -431,11 +439,11 @@ fn wishes_before(
         }
     }
     if let Some(wish) = copied {
-        wishes = with_wish(alloc, &wishes, wish)?;
+        add_wish(&mut wishes, wish)?;
     }
     match action {
         Action::Call(_) | Action::TailCall(_) | Action::Return | Action::Routine(_) => {
-            with_arguments(alloc, wishes, statement, behind)
+            with_arguments(wishes, statement, behind)
         }
         _ => Ok(wishes),
     }
@@ -462,20 +470,28 @@ fn ahead_before(alloc: Global, walk: &Walk, action: Action) -> Result<Vec<u32>, 
     }
 }
 
+// The copy that a statement makes.
+fn copied_by(statement: &Statement) -> Option<Copied> {
+    match (statement.action, statement.args.first(), statement.into) {
+        (Action::Compute(Operation::Mv), Some(from), Some(into)) => Some(Copied {
+            from: *from,
+            into,
+        }),
+        _ => None,
+    }
+}
+
 // The next copies in the code, before a statement.
 fn copies_before(
     alloc: Global,
     walk: &Walk,
     statement: &Statement,
 ) -> Result<Vec<Copied>, NoMemory> {
-    let mut copies = Vec::new(alloc);
-    if let (Action::Compute(Operation::Mv), Some(from), Some(into)) = (
-        statement.action,
-        statement.args.first(),
-        statement.into,
-    ) {
-        copies.push(Copied { from: *from, into })?;
-    }
+    let Some(first) = copied_by(statement) else {
+        return Ok(Vec::from_slice(alloc, &walk.at.copies)?);
+    };
+    let mut copies = Vec::with_capacity(alloc, MOST_AHEAD)?;
+    copies.push(first)?;
     for copied in &walk.at.copies {
         if copies.len() < MOST_AHEAD {
             copies.push(*copied)?;
@@ -494,14 +510,14 @@ fn plan_before(
     let action = statement.action;
     let into = statement.into;
     let behind = alive_behind(alloc, action, &walk.at.point.alive, &walk.alive)?;
-    let alive = alive_before(alloc, &statement.args, into, &behind)?;
+    let alive = values_before(copy_of(alloc, &behind)?, &statement.args, into)?;
     let held = held_before(alloc, action, &statement.args, &walk.at.point.held)?;
     let later = alive_behind(alloc, action, &walk.at.slotted, &walk.slotted)?;
     let here = slotted_with_care(alloc, statement, &behind, lone, care)?;
-    let slotted = alive_before(alloc, &here, into, &later)?;
+    let slotted = values_before(later, &here, into)?;
     let later = stored_behind(alloc, walk, action)?;
     let here = slotted_by(alloc, statement, &behind)?;
-    let stored = alive_before(alloc, &here, into, &later)?;
+    let stored = values_before(later, &here, into)?;
     Ok(Plan {
         point: Point { alive, held },
         slotted,

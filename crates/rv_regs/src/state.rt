@@ -81,16 +81,44 @@ pub fn is_to_be_had(state: &[Listed], keep: &[u32], register: Register) -> bool 
 }
 
 /// The registers that a value may stay in, by number. Calls spoil them, and prints and reads some of them; no other action does.
-pub const NUMBERS: [u8; 19] = [
-    6, 7, 28, 29, 30, 31, 20, 21, 22, 23, 24, 25, 26, 27, 4, 17, 16, 15, 14,
+pub const NUMBERS: [u8; 18] = [
+    6, 7, 28, 29, 30, 31, 21, 22, 23, 24, 25, 26, 27, 4, 17, 16, 15, 14,
 ];
 
+// Marks a register as used.
+fn mark(used: &mut [bool; 32], register: Register) {
+    if let Some(is_used) = used.get_mut(usize::from(register.number)) {
+        *is_used = true;
+    }
+}
+
+/// For each number whether a value has the register.
+pub fn used_registers(state: &[Listed]) -> [bool; 32] {
+    let mut used = [false; 32];
+    for listed in state {
+        if let Place::Register(register) = listed.place {
+            mark(&mut used, register);
+        }
+        if let Some(register) = listed.copy {
+            mark(&mut used, register);
+        }
+    }
+    used
+}
+
+/// Whether the register of a number is used.
+pub fn is_used(used: &[bool; 32], number: u8) -> bool {
+    match used.get(usize::from(number)) {
+        Some(is_used) => *is_used,
+        None => false,
+    }
+}
+
 fn free_register(state: &[Listed]) -> Option<Register> {
+    let used = used_registers(state);
     for number in NUMBERS {
-        if let Some(register) = Register::try_new(number) {
-            if is_free(state, register) {
-                return Some(register);
-            }
+        if !is_used(&used, number) {
+            return Register::try_new(number);
         }
     }
     None
@@ -184,7 +212,7 @@ fn listed_at(state: &[Listed], point: &Point, value: u32) -> Listed {
 
 /// The listings of a point, by where values stand. One of which this does not tell is in its slot.
 pub fn state_at(alloc: Global, state: &[Listed], point: &Point) -> Result<Vec<Listed>, NoMemory> {
-    let mut next = Vec::new(alloc);
+    let mut next = Vec::with_capacity(alloc, point.alive.len())?;
     for value in &point.alive {
         next.push(listed_at(state, point, *value))?;
     }
@@ -193,7 +221,7 @@ pub fn state_at(alloc: Global, state: &[Listed], point: &Point) -> Result<Vec<Li
 
 /// The listings without that of a value.
 pub fn state_without(alloc: Global, state: &[Listed], value: u32) -> Result<Vec<Listed>, NoMemory> {
-    let mut next = Vec::new(alloc);
+    let mut next = Vec::with_capacity(alloc, state.len())?;
     for listed in state {
         if listed.value != value {
             next.push(*listed)?;
@@ -226,7 +254,7 @@ pub fn state_behind(
     state: &[Listed],
     action: Action,
 ) -> Result<Vec<Listed>, NoMemory> {
-    let mut next = Vec::new(alloc);
+    let mut next = Vec::with_capacity(alloc, state.len())?;
     for listed in state {
         next.push(unspoilt(*listed, action))?;
     }
@@ -239,7 +267,7 @@ pub fn state_clear_of(
     state: &[Listed],
     register: Register,
 ) -> Result<Vec<Listed>, NoMemory> {
-    let mut next = Vec::new(alloc);
+    let mut next = Vec::with_capacity(alloc, state.len())?;
     for listed in state {
         next.push(without_copy_in(*listed, register))?;
     }
@@ -248,11 +276,7 @@ pub fn state_clear_of(
 
 /// The same listings, in memory of their own.
 pub fn same_state(alloc: Global, state: &[Listed]) -> Result<Vec<Listed>, NoMemory> {
-    let mut next = Vec::new(alloc);
-    for listed in state {
-        next.push(*listed)?;
-    }
-    Ok(next)
+    Ok(Vec::from_slice(alloc, state)?)
 }
 
 fn operand_of(state: &[Listed], action: Action, index: usize, value: u32) -> Operand {
@@ -280,7 +304,7 @@ pub fn operands_at(
     action: Action,
     args: &[u32],
 ) -> Result<Vec<Operand>, NoMemory> {
-    let mut operands = Vec::new(alloc);
+    let mut operands = Vec::with_capacity(alloc, args.len())?;
     for (index, value) in args.iter().enumerate() {
         operands.push(operand_of(state, action, index, *value))?;
     }
