@@ -13,7 +13,8 @@ use Rattle.elf_image.specs.declared.part.Part.{Part}
 abbrev pub pair_bytes : ℕ
 pair_bytes = 4 * most_pair_words
 
--- all others: those of the runtime, and those that grow with the instances and their nodes, take no more within the limits
+-- all others: those of the runtime, those of calls in line, and those that grow with the instances and their nodes, take no more within
+-- the limits
 abbrev pub plain_bytes : ℕ
 plain_bytes = 4 * 2 ^ 20
 

@@ -115,11 +115,11 @@ module _ (target : Target) (rest : List Line) (f : Frame Line) (fs : List (Frame
 
   -- a reference is given up by the runtime
   pub drop_runs : (x word : ℕ) (work : Work) → f.cells x ≡ Some word → drop_cells target.pool word world.cells ≡ Some work
-      → Runs target (most_drop_cost work.gave work.freed + (most_moves + 1)) 1
+      → Runs target (most_drop_cost work.gave work.freed + (most_moves + 2)) 1
       (turn_of (acts (Calls Drop) (x ∷ []) ∷ rest) f fs world)
       (turn_of rest f fs (with_cells world (merged_cells work world.cells)))
   drop_runs x word work is given =
-      line_runs target (most_drop_cost work.gave work.freed + (most_moves + 1)) (acts (Calls Drop) (x ∷ [])) rest f fs world
+      line_runs target (most_drop_cost work.gave work.freed + (most_moves + 2)) (acts (Calls Drop) (x ∷ [])) rest f fs world
       (word ∷ [])
       (turn_of rest f fs (with_cells world (merged_cells work world.cells))) (reads_one f.cells x word is)
       (ap (λ o. asm_served None (left_at rest f ∷ fs) (gives_up o world)) given)

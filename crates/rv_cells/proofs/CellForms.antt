@@ -80,7 +80,7 @@ good_drop B x rest is small good = record {
 
 module _ (base : ℕ) where
   -- what may be read with no temporary, and with those below a limit
-  abbrev Bound : List ℕ → ℕ → Type 0
+  abbrev pub Bound : List ℕ → ℕ → Type 0
   Bound bound = Readable base base bound
 
   pub effect : (bound : List ℕ) (limit : ℕ) (operation : Operation) (args : List ℕ) → HasRoom base bound

@@ -439,7 +439,7 @@ module _ (known : Known) (o : CountOpening known) where
 
     pub record Emptied (frame : Frame Line) (owners : ℕ → Owner) (cells : Cells) : Type 0 where
       pub comes : Comes (4 * most_moves + 7 + row_cost fields (most_moves + 2)
-          + row_cost (others_of used fields) (most_moves + 14)) (copies_to x token ∷ behind_alone o.into) s.frame.cells frame
+          + row_cost (others_of used fields) (most_moves + 15)) (copies_to x token ∷ behind_alone o.into) s.frame.cells frame
           owners cells
       pub words : ℕ → Option ℕ
       pub hand : owners at ≡ in_hand words

@@ -25,7 +25,7 @@ use Rattle.rv_cells.specs.CountedLines.{TestLines, first_lines, NodeLines, Nodes
 module _ (most : ℕ) where
   -- ---- words of cells
 
-  load_below : (cell i into : ℕ) (line : Line) → cell < most → into < most → Loads cell i into line → IsLineBelow most line
+  pub load_below : (cell i into : ℕ) (line : Line) → cell < most → into < most → Loads cell i into line → IsLineBelow most line
   load_below cell i into line cell_less less is = subst (IsLineBelow most) (sym is.2) ((cell_less, tt), less)
 
   store_below : (cell i from : ℕ) (line : Line) → cell < most → from < most → Stores cell i from line → IsLineBelow most line

@@ -10,7 +10,8 @@ use Rattle.rv_lower.proofs.AbsentLabels.{has_no_append}
 use Rattle.rv_lower.proofs.Operations.{Leads}
 use Rattle.rv_lower.proofs.Codes.{Fits}
 use Rattle.rv_cells.specs.CellLines.{dup_lines, drop_lines, ConstructLines, ReadLines}
-use Rattle.rv_cells.proofs.CellForms.{loads_lead, dup_leads, drop_leads, construct_leads}
+use Rattle.rv_cells.proofs.CellForms.{dup_leads, drop_leads, construct_leads}
+use Rattle.rv_cells.proofs.ReadingLines.{reads_lead}
 
 -- variables that are bound are so for the lines of forms
 pub all_bound : (bound xs : List ℕ) → AreBound bound xs → AllBound bound xs
@@ -54,4 +55,4 @@ module _ (base : ℕ) (bound outer : List ℕ) (has : HasRoom base bound) (goal 
       → Fits base bound outer goal low high (own ++ more)
   fits_read x fields own is below lines fits =
       fits_step base bound (bound_list fields bound) outer goal low high (length fields) own more
-      (loads_lead base bound x 2 fields own has is below lines) fits
+      (reads_lead base bound x fields own has is below lines) fits

@@ -37,7 +37,8 @@ use Rattle.rv_cells.specs.TokenedLines.{header_stands, count_stands, LinesBehind
 use Rattle.rv_cells.specs.TokenedLowered.{IsTokenedForm}
 use Rattle.rv_cells.proofs.CallLines.{among_numbers}
 use Rattle.rv_cells.proofs.FormedOrders.{room_front}
-use Rattle.rv_cells.proofs.FormValues.{loads_below, dup_below, drop_below, construct_below, fill_below, token_unique_below, nodes_below}
+use Rattle.rv_cells.proofs.FormValues.{dup_below, drop_below, construct_below, fill_below, token_unique_below, nodes_below}
+use Rattle.rv_cells.proofs.ReadingLines.{reads_below}
 use Rattle.rv_cells.proofs.TokenFormedFunctions.{bare_at}
 use Rattle.rv_cells.proofs.UnnamedVariables.{HasUses, HaveUses, uses_marked}
 
@@ -275,7 +276,7 @@ module _ (setting : Setting) (marks : CellMarks) (result : Bool) (variables slot
         arities few spends is =
         subst Below (sym is.4)
         (lines_joined most is.0 is.1
-        (loads_below most x 2 fields is.0 (variable_less x (has.low x uses.0.0))
+        (reads_below most x fields is.0 (variable_less x (has.low x uses.0.0))
         (fields_below variables most fields variables_le numbered.0.0) is.2)
         (code_below None rest (fields ++ bound) unspent left [] given goal low high is.1 tt to
         (room_front variables bound fields has numbered.0.0) uses.1 numbered.1 arities few spends.1 is.3))

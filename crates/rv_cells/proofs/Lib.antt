@@ -15,6 +15,7 @@ pub mod HeldRows
 pub mod Values
 pub mod Spots
 pub mod Rows
+pub mod Readings
 pub mod Openings
 pub mod ConstructionLines
 pub mod CountOpenings
@@ -28,6 +29,7 @@ pub mod PositionTests
 pub mod CallLines
 pub mod WrittenLines
 pub mod WrittenNodes
+pub mod WrittenReadings
 pub mod BoundVariables
 pub mod UnnamedVariables
 pub mod Comparisons
@@ -59,6 +61,7 @@ pub mod TokenFormedCodes
 pub mod TokenFormedFunctions
 pub mod FormLengths
 pub mod TestLengths
+pub mod ReadingLines
 pub mod TokenCodeLengths
 pub mod TokenCodeWords
 pub mod FormPlaces

@@ -12,7 +12,7 @@ pub row_more : (xs : List ℕ) (cost : ℕ) → row_cost xs (cost + 1) ≡ row_c
 row_more [] cost = refl
 row_more (x ∷ xs) cost = let later = row_more xs cost in omega (arith, later)
 
--- The most moves that a line has that is no call: two arguments, or an argument and a result.
+-- The most moves that a line has that is no call: two arguments, an argument and a result, or those of a drop, one of them spare.
 abbrev pub most_moves : ℕ
 most_moves = 2
 

@@ -22,7 +22,7 @@ use Rattle.cell_heap.specs.Blocks.{own}
 use Rattle.cell_runtime.specs.World.{World}
 use Rattle.rv_cells.specs.Layout.{Layout, word_in, words_in, FitFields, first_field}
 use Rattle.rv_cells.specs.CountedCells.{AreFrom}
-use Rattle.rv_cells.specs.CellLines.{AllLoads, ReadLines, dup_lines, drop_lines, dups_lines, drops_lines}
+use Rattle.rv_cells.specs.CellLines.{AllLoads, dup_lines, drop_lines, dups_lines, drops_lines}
 use Rattle.rv_cells.proofs.NameContents.{some-is, held_within, held_other, held_count, held_fields}
 use Rattle.rv_cells.proofs.Words.{all_within_more, load_own, cell_named as cell_of_name}
 use Rattle.rv_lower.proofs.FormEffects.{put_other}
@@ -87,10 +87,19 @@ pub record IsReading (known : Known) (s : Spot) (x c : ℕ) (fields : List ℕ) 
 within_all : (n m : ℕ) (vs : List Value) → n ≤ m → AllWithin n vs → AllWithin m vs
 within_all n m vs le within = all_within_more n m vs le within
 
-pub read_did : (known : Known) (rest : List Line) (fs : List (Frame Line)) (s : Spot) (x c : ℕ) (fields : List ℕ)
-    (lines : List Line) (named : Named) → Here known s → IsReading known s x c fields named → ReadLines x fields lines
-    → Did known (row_cost fields (most_moves + 2)) lines rest fs s (with_fields known.layout s fields named.fields)
-read_did known rest fs s x c fields lines named here reads loads =
+-- the words of the fields stand in the cell
+pub record FieldsThere (known : Known) (s : Spot) (x : ℕ) (fields : List ℕ) (named : Named) : Type 0 where
+  pub there : s.frame.cells x ≡ Some (s.address named.at)
+  pub block : ℕ → Option ℕ
+  pub is : s.world.cells.blocks (s.address named.at) ≡ own block
+  pub words : AreFrom block first_field (words_in known.layout s.address named.fields)
+  pub many : length fields ≡ length (words_in known.layout s.address named.fields)
+  pub few : first_field + length fields ≤ cell_words
+  pub here : Here known (with_fields known.layout s fields named.fields)
+
+pub fields_there : (known : Known) (s : Spot) (x c : ℕ) (fields : List ℕ) (named : Named) → Here known s
+    → IsReading known s x c fields named → FieldsThere known s x fields named
+fields_there known s x c fields named here reads =
     let made = named_made c (length fields) s.heap (value_of s.environment x) named reads.is in
     let count = held_count s.heap named.at made.held made.there in
     let stands = cell_of_name here.follows named.at (let some = made.counted in omega arith) in
@@ -103,27 +112,39 @@ read_did known rest fs s x c fields lines named here reads loads =
     let many = fits_length (known.layout.fields c) named.fields fits in
     let few = known.narrow.few c in
     let same_many : length named.fields ≡ length fields = ap length (sym made.fields) ∙ made.many in
-    let words : AreFrom stands.words first_field (words_in known.layout s.address named.fields) = subst
-    (λ us. AreFrom stands.words first_field (words_in known.layout s.address us)) vs stands.shows.fields in
     let length_is : length (words_in known.layout s.address named.fields) ≡ length named.fields = length-map named.fields
     (word_in known.layout s.address) in
     let low = held_within s.heap named.at made.held made.there in
+    record {
+      there = here.values.words x reads.bound ∙ ap (λ v. Some (word_in known.layout s.address v)) made.is;
+      block = stands.words;
+      is = stands.is;
+      words = subst (λ us. AreFrom stands.words first_field (words_in known.layout s.address us)) vs stands.shows.fields;
+      many = omega arith;
+      few = omega arith;
+      here = record {
+        follows = here.follows;
+        values = has_list fields named.fields here.values reads.below
+            (subst (λ bits. FitFields bits named.fields) (sym reads.kinds) fits)
+            (within_all named.at (length s.heap) named.fields (omega (arith, low))
+            (subst (AllWithin named.at) (held_fields s.heap named.at made.held made.there ∙ made.fields)
+            (reads.older named.at)));
+      };
+    }
+
+-- fields that are loaded in their order
+pub read_did : (known : Known) (rest : List Line) (fs : List (Frame Line)) (s : Spot) (x c : ℕ) (fields : List ℕ)
+    (lines : List Line) (named : Named) → Here known s → IsReading known s x c fields named → AllLoads x first_field fields lines
+    → Did known (row_cost fields (most_moves + 2)) lines rest fs s (with_fields known.layout s fields named.fields)
+read_did known rest fs s x c fields lines named here reads loads =
+    let words = words_in known.layout s.address named.fields in
+    let are = fields_there known s x c fields named here reads in
     did_here known (row_cost fields (most_moves + 2)) lines rest fs s (with_fields known.layout s fields named.fields)
     (row_cost fields (most_moves + 2)) (length fields) (omega arith)
-    (loads_run known.target rest fs s.world x (s.address named.at) stands.words stands.is fields
-    (words_in known.layout s.address named.fields) 2 lines s.frame loads
-    (here.values.words x reads.bound ∙ ap (λ v. Some (word_in known.layout s.address v)) made.is) words (omega arith) (omega arith)
-    reads.apart)
-    (record {
-      follows = here.follows;
-      values = has_list fields named.fields here.values reads.below
-          (subst (λ bits. FitFields bits named.fields) (sym reads.kinds) fits)
-          (within_all named.at (length s.heap) named.fields (omega (arith, low))
-          (subst (AllWithin named.at) (held_fields s.heap named.at made.held made.there ∙ made.fields)
-          (reads.older named.at)));
-    })
-    refl refl (λ at is. refl) (λ at is. refl) (λ z none. list_grown fields s.bound z none)
-    (λ z low none. list_spared fields (words_in known.layout s.address named.fields) s.bound z s.frame.cells none)
+    (loads_run known.target rest fs s.world x (s.address named.at) are.block are.is fields words first_field lines s.frame loads
+    are.there are.words are.many are.few reads.apart)
+    are.here refl refl (λ at is. refl) (λ at is. refl) (λ z none. list_grown fields s.bound z none)
+    (λ z low none. list_spared fields words s.bound z s.frame.cells none)
 
 -- ---- dups and drops
 
@@ -173,7 +194,7 @@ module _ (known : Known) (rest : List Line) (fs : List (Frame Line)) where
 
   pub drops_did : (xs : List ℕ) (s : Spot) (next : Heap) → Here known s → AllAmong xs s.bound
       → drop_all (values_of s.environment xs) s.heap ≡ Some next
-      → Changed known (row_cost xs (most_moves + 14)) (drops_lines known.holds xs) rest fs s next
+      → Changed known (row_cost xs (most_moves + 15)) (drops_lines known.holds xs) rest fs s next
   drops_did [] s next here bound is = (
     s.owners,
     s.world.cells,
@@ -187,6 +208,6 @@ module _ (known : Known) (rest : List Line) (fs : List (Frame Line)) where
       let others = drops_did xs mid next one.2.here bound.1 first.2 in (
         others.0,
         others.1,
-        did_then known (most_moves + 14) (row_cost xs (most_moves + 14)) (drop_lines known.holds x)
+        did_then known (most_moves + 15) (row_cost xs (most_moves + 15)) (drop_lines known.holds x)
             (drops_lines known.holds xs) rest fs s mid (with_heap s next others.0 others.1) one.2 others.2,
       )

@@ -9,7 +9,7 @@ use Rattle.kk_base.proofs.Machines.{state-add, trace-add, weight_of-add}
 use Rattle.rv_isa.specs.Processor.{Ending}
 use Rattle.rv_isa.specs.AsmCode.{Line, Lines}
 use Rattle.rv_isa.specs.AsmMachine.{AsmTurn, asm_acts, asm_next, asm_machine, asm_told}
-use Rattle.rv_isa.specs.Costs.{instructions_of, line_moves}
+use Rattle.rv_isa.specs.Costs.{instructions_of, line_moves, spare_moves}
 use Rattle.rv_isa.specs.Frames.{Frame, all_of, top}
 use Rattle.rv_isa.specs.Primitives.{Primitives, go, ended, stuck, or_stuck}
 use Rattle.cell_heap.specs.Pool.{Pool}
@@ -89,7 +89,8 @@ module _ (target : Target) where
       (words : List ℕ) (u : AsmTurn World Ending)
       → all_of (map f.cells line.args) ≡ Some words
       → asm_acts world_primitives target.depth target.functions (left_at rest f) fs world line.action line.args line.into words ≡ u
-      → ((held : Option ℕ) → line_moves line + instructions_of world_primitives line.action (Some words) held world ≤ cost)
+      → ((held : Option ℕ)
+      → line_moves line + spare_moves line.action + instructions_of world_primitives line.action (Some words) held world ≤ cost)
       → drop (length world.trace) (asm_told world_primitives u) ≡ []
       → Runs cost 1 (turn_of (line ∷ rest) f fs world) u
   line_runs cost line rest f fs world words u words_are acts light told_are =
@@ -102,8 +103,10 @@ module _ (target : Target) where
       ≡ []
       = ap (λ (s : AsmTurn World Ending). drop (length world.trace) (asm_told world_primitives s)) next ∙ told_are in
       let held : Option ℕ = top (left_at (line ∷ rest) f ∷ fs) in
-      let weighs : machine.weight t ≡ line_moves line * 1 + instructions_of world_primitives line.action (Some words) held world
-      = ap (λ o. line_moves line * 1 + instructions_of world_primitives line.action o held world) words_are in
+      let weighs : machine.weight t ≡ (line_moves line + spare_moves line.action) * 1
+      + instructions_of world_primitives line.action (Some words) held world
+      = ap (λ o. (line_moves line + spare_moves line.action) * 1 + instructions_of world_primitives line.action o held world)
+      words_are in
       record {
         within = omega (arith, weighs, light held);
         silent = append-nil (drop (length world.trace)

@@ -294,8 +294,8 @@ module _ (known : Known) (rest : List Line) (fs : List (Frame Line)) (s : Spot) 
   dup_did is small = dup_by (known.holds x) (here.values.fits x bound) is small
 
   drop_by : (b : Bool) → FitsField b (value_of s.environment x) → drop_value (value_of s.environment x) s.heap ≡ Some next
-      → Changed known (most_moves + 14) (if b then acts (Calls Drop) (x ∷ []) ∷ [] else []) rest fs s next
-  drop_by false fits is = same_did known (most_moves + 14) rest fs s next here
+      → Changed known (most_moves + 15) (if b then acts (Calls Drop) (x ∷ []) ∷ [] else []) rest fs s next
+  drop_by false fits is = same_did known (most_moves + 15) rest fs s next here
       (drop_plain (value_of s.environment x) s.heap next fits is)
   drop_by true fits is =
       let word = word_in known.layout s.address (value_of s.environment x) in
@@ -304,9 +304,9 @@ module _ (known : Known) (rest : List Line) (fs : List (Frame Line)) (s : Spot) 
       let long = drop_length (value_of s.environment x) s.heap next is in (
         (λ at. still next (s.owners at)),
         merged_cells done.work s.world.cells,
-        did_here known (most_moves + 14) (acts (Calls Drop) (x ∷ []) ∷ []) rest fs s
+        did_here known (most_moves + 15) (acts (Calls Drop) (x ∷ []) ∷ []) rest fs s
             (with_heap s next (λ at. still next (s.owners at)) (merged_cells done.work s.world.cells))
-            (most_drop_cost done.work.gave done.work.freed + (most_moves + 1)) 1 (omega arith)
+            (most_drop_cost done.work.gave done.work.freed + (most_moves + 2)) 1 (omega arith)
             (drop_runs known.target rest s.frame fs s.world x word done.work (here.values.words x bound) done.is)
             (record { follows = done.holds; values = values_there known s next long here }) refl refl
             (λ at is. still_aside next (s.owners at) is) (λ at is. still_was next (s.owners at) is) (λ z none. none)
@@ -315,5 +315,5 @@ module _ (known : Known) (rest : List Line) (fs : List (Frame Line)) (s : Spot) 
 
   -- a drop with all that it frees
   pub drop_did : drop_value (value_of s.environment x) s.heap ≡ Some next
-      → Changed known (most_moves + 14) (drop_lines known.holds x) rest fs s next
+      → Changed known (most_moves + 15) (drop_lines known.holds x) rest fs s next
   drop_did is = drop_by (known.holds x) (here.values.fits x bound) is

@@ -174,7 +174,7 @@ module _ (program : Lowering) where
       ≡ goes (machine_at program rest s.environment inner frames next.0 tokens) = ap (λ o. goes (to_heap o from there)) next.1 in
       let few = p.short in
       goes_counted code inner frames tokens input s fs left at idle fit rest (drop_lines at.shape.holds x) p.lines.0
-      next.0 s.frame done.0 (with_cells s.world done.1) (most_moves + 14) done.2
+      next.0 s.frame done.0 (with_cells s.world done.1) (most_moves + 15) done.2
       (drop_length (value_of s.environment x) s.heap next.0 next.1) (drop_cells (value_of s.environment x) s.heap next.0 next.1)
       p.lines.2 p.lines.1 (record { way = 0 ∷ []; is_part = inl refl; code_is = refl }) p.marked.1 p.numbered p.has p.keeps step
       refl

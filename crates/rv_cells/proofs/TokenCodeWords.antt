@@ -35,8 +35,9 @@ use Rattle.rv_cells.specs.Tables.{table_of, layout_in}
 use Rattle.rv_cells.specs.TokenedLines.{CodeLines, values_of_slots, header_stands, count_stands, AskLines, OwnLines, CaseLines, LinesBehind}
 use Rattle.rv_cells.specs.TokenedLines.{ArmsLines, IsFunctionOf}
 use Rattle.rv_cells.specs.TokenedLowered.{IsTokenedForm}
-use Rattle.rv_cells.proofs.FormLengths.{lines_append, loads_length, dup_length, drop_length, token_unique_length, fill_length}
+use Rattle.rv_cells.proofs.FormLengths.{lines_append, dup_length, drop_length, token_unique_length, fill_length}
 use Rattle.rv_cells.proofs.FormLengths.{goal_length, tail_length, form_few}
+use Rattle.rv_cells.proofs.ReadingLines.{reads_length}
 use Rattle.rv_cells.proofs.TestLengths.{nodes_short}
 use Rattle.rv_cells.proofs.AskedForms.{ask_either}
 use Rattle.rv_cells.proofs.TokenFormedFunctions.{bare_at}
@@ -143,7 +144,7 @@ module _ (setting : Setting) (variables : ℕ) where
     code_few branch (Tokened.read x c fields rest) goal low high lines left unspent held arities spends is =
         let whole = ap code_length is.4 in
         let apart = lines_append is.0 is.1 in
-        let own = loads_length x 2 fields is.0 is.2 in
+        let own = reads_length x fields is.0 is.2 in
         let more = code_few None rest goal low high is.1 left unspent [] arities spends.1 is.3 in
         omega (arith, whole, apart, own, more)
     code_few branch (Tokened.open_cell x c fields used y rest) goal low high lines left unspent held arities spends is =

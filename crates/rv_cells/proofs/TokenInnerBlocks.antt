@@ -18,7 +18,8 @@ use Rattle.rv_lower.proofs.Orders.{split_at}
 use Rattle.rv_cells.proofs.BoundVariables.{within_itself, within_one, marks_are}
 use Rattle.rv_cells.proofs.FormPlaces.{stands_first, stands_behind_two}
 use Rattle.rv_cells.proofs.LineCosts.{most_moves, row_cost}
-use Rattle.rv_cells.proofs.Rows.{IsReading, with_fields, read_did}
+use Rattle.rv_cells.proofs.Rows.{IsReading, with_fields}
+use Rattle.rv_cells.proofs.Readings.{with_values, reading_did}
 use Rattle.rv_cells.proofs.Runs.{turn_of, runs_none}
 use Rattle.rv_cells.proofs.Spots.{Here, saved}
 use Rattle.rv_cells.proofs.TokenCellForms.{goes_did}
@@ -147,7 +148,8 @@ module _ (program : Lowering) where
         kinds = marks_are at.shape.holds fields (field_marks program.marks c) p.marked.0.1.1 ∙ sym (program.fields_are c);
         older = (fit 0).bare.sound.older;
       } in
-      let to = with_fields program.layout s fields named.0.fields in
+      let done = reading_did known (p.lines.1 ++ p.after) fs s x c fields p.lines.0 named.0 here reads p.lines.2 in
+      let to = with_values (with_fields program.layout s fields named.0.fields) done.0 in
       let step : token_code_step (setting program) code s.environment inner from
       ≡ goes (machine_at program rest to.environment inner frames to.heap tokens)
       = ap (λ o. token_read_step o fields rest s.environment inner from) named.1 in
@@ -157,7 +159,7 @@ module _ (program : Lowering) where
       let row = row_times fields (most_moves + 2) in
       goes_did program code inner frames tokens input s fs left at idle fit rest p.lines.0 p.lines.1 to (fields ++ s.bound)
       (row_cost fields (most_moves + 2)) goes
-      (read_did known (p.lines.1 ++ p.after) fs s x c fields p.lines.0 named.0 here reads p.lines.2) refl refl refl p.lines.4 p.low
+      done.1 refl refl refl p.lines.4 p.low
       p.lines.3 (record { way = 0 ∷ []; is_part = inl refl; code_is = refl }) (within_fields fields s.bound) (within_front fields s.bound)
       (below_list v fields s.bound p.numbered.0.0 at.has.below) p.marked.1 p.numbered.1 p.has p.keeps
       (subst (λ (l : Lists). IsJudged program.pool.cells l.left l.unspent l.held l.older rest inner frames s.heap tokens) kept.1.0

@@ -85,7 +85,7 @@ abbrev pub token_cost : Known → List ℕ → List ℕ → ℕ
 token_cost known fields used =
     9 * most_moves + 20 + row_cost fields (most_moves + 2) + row_cost (filter (is_among used) fields)
     (most_moves + 5)
-    + row_cost (Opens.others_of used fields) (most_moves + 14)
+    + row_cost (Opens.others_of used fields) (most_moves + 15)
 
 module _ (known : Known) (rest : List Line) (fs : List (Frame Line)) (s : Spot) (x c : ℕ) (fields used : List ℕ)
     (second behind filled token : ℕ) (into : Option ℕ) (lines : List Line) (named : Named) (next : Heap)

@@ -489,7 +489,7 @@ module _ (program : Lowering) (code : Tokened) (x c : ℕ) (fields used : List �
       let weighs = a.weighs in
       let one = row_times fields (most_moves + 2) in
       let two = row_times (filter (is_among used) fields) (most_moves + 5) in
-      let three = row_times (others_of used fields) (most_moves + 14) in
+      let three = row_times (others_of used fields) (most_moves + 15) in
       omega (arith, one, two, three, weighs)
 
   finish : (frame : Frame Line) (owners : ℕ → Owner) (cells : Cells) → Leads_to after_lines frame owners cells → (after : Tokens)

@@ -1,6 +1,6 @@
 -- The assembler lines of the counted forms that touch cells. Value x of a function's assembler code is variable x; the values
 -- from `base` on are temporaries.
-use Rattle.std.specs.Prelude.{◌≡◌, ℕ, suc, ◌+◌, ◌*◌, ◌-◌, ◌^◌, Bool, true, false, List, [], ◌∷◌, ◌++◌, filter, Option, Some, None, not, nat_eq, if◌then◌else◌}
+use Rattle.std.specs.Prelude.{◌≡◌, ◌⊎◌, ℕ, suc, ◌+◌, ◌*◌, ◌-◌, ◌^◌, Bool, true, false, List, [], ◌∷◌, ◌++◌, length, filter, Option, Some, None, not, nat_eq, if◌then◌else◌}
 use Rattle.kk_syntax.specs.Shapes.{is_among}
 use Rattle.rv_isa.specs.declared.asm.Action.TheVariants.{Compute, Label, Jump, Branch, Routine as Calls, Hold, Unhold}
 use Rattle.rv_isa.specs.declared.asm.Condition.{Condition}
@@ -117,9 +117,21 @@ FillLines base x token others filled header arguments kept head count lines =
     (hold_lines others ++ (record { action = Calls Take; args = []; into = Some x } ∷
     (unhold_lines others ++ (left ++ (acts (Label filled) [] ∷ stores))))))
 
--- a reading: the fields are loaded
+-- a value stands once in a list, between these others
+abbrev pub StandsOnce : List ℕ → ℕ → List ℕ → List ℕ → Type 0
+StandsOnce all value before after = (all ≡ before ++ (value ∷ after)) × (is_among (before ++ after) value ≡ false)
+
+-- A field, which stands once among the fields, is loaded behind the others.
+abbrev pub LoadsOneLast : ℕ → List ℕ → List Line → Type 0
+LoadsOneLast x fields lines =
+    (before : List ℕ) × (last : ℕ) × (after : List ℕ) × (first : List Line) × (others : List Line) × (load : Line)
+    × StandsOnce fields last before after × AllLoads x first_field before first
+    × AllLoads x (first_field + suc (length before)) after others × Loads x (first_field + length before) last load
+    × (lines ≡ first ++ (others ++ (load ∷ [])))
+
+-- A reading: the fields are loaded, in their order or one of them last.
 abbrev pub ReadLines : ℕ → List ℕ → List Line → Type 0
-ReadLines x fields lines = AllLoads x first_field fields lines
+ReadLines x fields lines = AllLoads x first_field fields lines ⊎ LoadsOneLast x fields lines
 
 -- The way of a cell that has no other reference: the fields are loaded, those that are not in use are dropped, and the cell becomes
 -- the token of a value.

@@ -1,5 +1,5 @@
 -- What was written of a function's assembler code, from its counted form.
-use Rattle.std.specs.Prelude.{Option, ◌≡◌, ℕ, ◌+◌, ◌-◌, ◌^◌, Bool, true, false, List, [], ◌∷◌, ◌++◌, map, slice_index_or}
+use Rattle.std.specs.Prelude.{Option, ◌≡◌, ℕ, ◌+◌, ◌-◌, ◌^◌, Bool, true, false, List, [], ◌∷◌, ◌++◌, length, map, slice_index_or}
 use Rattle.kk_syntax.specs.declared.program.Form.{Form}
 use Rattle.kk_core.specs.Decisions.{node_tree}
 use Rattle.kk_core.specs.declared.decisions.Answer.{Answer}
@@ -20,7 +20,7 @@ use Rattle.rv_cells.specs.declared.decide.CaseWays.{CaseWays}
 use Rattle.rv_cells.specs.declared.decide.Shown.{Shown}
 use Rattle.rv_cells.specs.declared.decide.Shown.TheVariants.{Word, Tag}
 use Rattle.rv_cells.specs.Layout.{Layout, layout_of, tag_values}
-use Rattle.rv_cells.specs.CellLines.{Loads, Stores, alone_lines, shared_lines, TokenUniqueLines}
+use Rattle.rv_cells.specs.CellLines.{Loads, Stores, StandsOnce, alone_lines, shared_lines, TokenUniqueLines}
 use Rattle.rv_cells.specs.CountedLines.{Setting, ComputeLines, Ways, ways_of, answer_word, answer_tag}
 
 -- ---- what is known
@@ -70,6 +70,11 @@ setting_in facts base texts = record {
 }
 
 -- ---- lines
+
+-- a value stands once in a list, at this place
+abbrev pub IsOnlyPlace : List ℕ → ℕ → ℕ → Type 0
+IsOnlyPlace all value place =
+    (before : List ℕ) × (after : List ℕ) × StandsOnce all value before after × (length before ≡ place)
 
 -- a branch to a label by this test of a cell's count for 1
 abbrev pub TestsCount : ℕ → Condition → ℕ → ℕ → List Line → Type 0

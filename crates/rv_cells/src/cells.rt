@@ -1,12 +1,12 @@
 // The lines of the forms that touch cells.
 
-ghost use Rattle.std.specs.Prelude.{◌≡◌, ◌+◌, ◌*◌, true, false, map, not, filter, IfOk, OnOk};
+ghost use Rattle.std.specs.Prelude.{◌≡◌, ◌+◌, ◌*◌, ◌==◌, true, false, map, not, filter, position, IfOk, IfSome, OnOk};
 ghost use Rattle.kk_syntax.specs.Shapes.{is_among};
 ghost use Rattle.rv_lower.specs.Written.{short_line, Wrote, WroteLines};
 ghost use Rattle.rv_cells.specs.CellLines.{Loads, Stores, AllLoads, AllStores, dup_lines, drop_lines, dups_lines, drops_lines};
 ghost use Rattle.rv_cells.specs.CellLines.{SomeStores, SetIf, SomeWords, is_kept, ConstructLines, ReadLines, alone_lines, goes_second, leaving_lines};
 ghost use Rattle.rv_cells.specs.TokenedWritten.{variables_known, StoreLines, PushedStore, is_left};
-ghost use Rattle.rv_cells.specs.Written.{holds_known, TestsCount, WayLines, LowersCellCount, WroteOpening};
+ghost use Rattle.rv_cells.specs.Written.{holds_known, IsOnlyPlace, TestsCount, WayLines, LowersCellCount, WroteOpening};
 ghost use Rattle.rv_cells.specs.Layout.{first_field};
 
 use crate::standing::Known;
@@ -100,11 +100,55 @@ fn push_store(
     Ok(())
 }
 
-/// Loads the fields of a cell.
-pub fn write_reading(lowering: &mut Lowering, cell: u32, fields: &[u32]) -> Result<(), NoMemory>
+/// The first place of a field among fields.
+fn first_place(fields: &[u32], field: u32) -> Option<usize>
+    ensures { result ≡ position (λ other. other == field) fields.now }
+{
+    fields.iter().position(|other| *other == field)
+}
+
+/// Where a field stands, if it stands once among the fields.
+fn only_place(fields: &[u32], field: u32) -> Option<usize>
+    ensures { IfSome result (IsOnlyPlace fields.now field) }
+{
+    let place = first_place(fields, field)?;
+    if fields[place + 1..].contains(&field) {
+        return None;
+    }
+    Some(place)
+}
+
+/// The lines that load the fields of a cell, in their order. But a field that is given comes last, where it stands once among them.
+fn reading(
+    alloc: Global,
+    cell: u32,
+    fields: &[u32],
+    last: Option<u32>,
+) -> Result<Vec<Short>, NoMemory>
+    ensures { IfOk result (λ lines. ReadLines cell fields.now (map short_line lines.items)) }
+{
+    let mut lines = loads(alloc, cell, fields)?;
+    let Some(field) = last else {
+        return Ok(lines);
+    };
+    let Some(place) = only_place(fields, field) else {
+        return Ok(lines);
+    };
+    let line = lines.remove(place);
+    lines.push(line)?;
+    Ok(lines)
+}
+
+/// Loads the fields of a cell. A field that the next call takes first may come last: then its load can take the cell's register.
+pub fn write_reading(
+    lowering: &mut Lowering,
+    cell: u32,
+    fields: &[u32],
+    last: Option<u32>,
+) -> Result<(), NoMemory>
     ensures { OnOk result (WroteLines (ReadLines cell fields.now) lowering.old lowering.new) }
 {
-    let lines = loads(lowering.alloc, cell, fields)?;
+    let lines = reading(lowering.alloc, cell, fields, last)?;
     lowering.write(&lines)
 }
 

@@ -24,6 +24,7 @@ use crate::token_cells::{
 use kk_base::NoMemory;
 use kk_core::Decisions;
 use kk_counted::{TokenedBlock, TokenedLast, TokenedStep};
+use kk_syntax::Form;
 use rv_lower::{Goal, Lowering, next, write_label, write_tail_call, write_value};
 
 /// Writes the code of a block. The recursion is as deep as the block.
@@ -131,7 +132,7 @@ fn write_step(
             variable,
             fields,
             ..
-        } => write_reading(lowering, *variable, fields),
+        } => write_reading(lowering, *variable, fields, first_argument(behind)),
         TokenedStep::Open { .. } => write_opened(lowering, known, step, behind),
         TokenedStep::IfUnique { .. } => write_opened(lowering, known, step, behind),
         TokenedStep::Dup { variable } => write_dup(lowering, known, *variable),
@@ -143,6 +144,21 @@ fn write_step(
         TokenedStep::Hold { slot } => write_hold(lowering, known, *slot),
         TokenedStep::Unhold { slot } => write_unhold(lowering, known, *slot),
     }
+}
+
+/// The first argument of the first call among steps.
+fn first_argument(steps: &[TokenedStep]) -> Option<u32> {
+    for step in steps {
+        if let TokenedStep::Let {
+            form: Form::Call(_),
+            arguments,
+            ..
+        } = step
+        {
+            return arguments.first().copied();
+        }
+    }
+    None
 }
 
 /// The lines of a step that opens a cell, whose slot may take it, before those of the steps behind it.
