@@ -115,7 +115,7 @@ abbrev pub stores_behind : Action → List Operand → Option Operand → ℕ
 stores_behind (Compute operation) args into = length args + result_moves into
 stores_behind action args into = result_moves into
 
--- Between two statements stand at most `extra` moves more than the stores behind the first and the loads before the second.
+-- Between two statements stand at most `extra` moves more than the stores behind the first and the moves for the arguments of the second.
 abbrev pub MovesWithin : ℕ → List PlacedLine → Type 0
 MovesWithin extra [] = ⊤
 MovesWithin extra (does alive action args into ∷ code) =

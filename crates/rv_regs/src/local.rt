@@ -449,6 +449,28 @@ fn moves_behind(statement: &Statement) -> usize {
     }
 }
 
+// Values stand as they do behind a statement, but for its result, which stands nowhere yet. No move was made behind it so far.
+fn pass(
+    alloc: Global,
+    walk: &mut Walk,
+    statement: &Statement,
+    behind: &Plan,
+) -> Result<(), NoMemory> {
+    if spoils_some(statement.action) {
+        walk.state = state_behind(alloc, &walk.state, statement.action)?;
+    }
+    walk.state = state_at(alloc, &walk.state, &behind.point)?;
+    if let Some(value) = statement.into {
+        if listing(&walk.state, value).is_some() {
+            walk.state = state_without(alloc, &walk.state, value)?;
+        }
+    }
+    walk.left = moves_behind(statement);
+    walk.moved = Vec::new(alloc);
+    walk.excess = 0;
+    Ok(())
+}
+
 // Writes a statement whose arguments are in place, and brings its result to where it is needed.
 fn put_line(
     alloc: Global,
@@ -460,18 +482,9 @@ fn put_line(
     let action = statement.action;
     let alive = same_state(alloc, &walk.state)?;
     let args = operands_at(alloc, &walk.state, action, &statement.args)?;
-    if spoils_some(action) {
-        walk.state = state_behind(alloc, &walk.state, action)?;
-    }
-    walk.state = state_at(alloc, &walk.state, &behind.point)?;
-    walk.left = moves_behind(statement);
-    walk.moved = Vec::new(alloc);
-    walk.excess = 0;
+    pass(alloc, walk, statement, behind)?;
     match statement.into {
         Some(value) => {
-            if listing(&walk.state, value).is_some() {
-                walk.state = state_without(alloc, &walk.state, value)?;
-            }
             let register = result_for(walk, action, &args, value, behind)?;
             let place = Place::Register(register);
             let into = Operand { value, place };
@@ -702,20 +715,23 @@ fn start(alloc: Global, params: &[u32], plan: &Plan, care: &Care) -> Result<Walk
     Ok(walk)
 }
 
-// The walk through a function; or `None` where that would be too much work.
-fn walked(alloc: Global, function: &AsmFunction, care: &Care) -> Result<Option<Walk>, NoMemory> {
-    let Some(mut plans) = plans_of(alloc, &function.code, care)? else {
+// The walk through a function; or `None` where the plans are none of it.
+fn walked(
+    alloc: Global,
+    function: &AsmFunction,
+    plans: &Plans,
+    care: &Care,
+) -> Result<Option<Walk>, NoMemory> {
+    let mut points = plans.points.iter().rev();
+    let Some(mut before) = points.next() else {
         return Ok(None);
     };
-    let Some(mut before) = plans.points.pop() else {
-        return Ok(None);
-    };
-    let mut walk = start(alloc, &function.params, &before, care)?;
+    let mut walk = start(alloc, &function.params, before, care)?;
     for statement in &function.code {
-        let Some(behind) = plans.points.pop() else {
+        let Some(behind) = points.next() else {
             return Ok(None);
         };
-        step(alloc, &mut walk, statement, &before, &behind, &plans, care)?;
+        step(alloc, &mut walk, statement, before, behind, plans, care)?;
         before = behind;
     }
     Ok(Some(walk))
@@ -741,14 +757,12 @@ pub fn local_function(
     function: &AsmFunction,
     is_early: bool,
 ) -> Result<Option<PlacedFunction>, NoMemory> {
-    let mut care = Care {
-        is_for_all: is_early,
-        due: Vec::new(alloc),
-        early: Vec::new(alloc),
-        slotted: Vec::new(alloc),
+    let mut care = Care::none(alloc, is_early);
+    let Some(mut plans) = plans_of(alloc, &function.code, &care)? else {
+        return Ok(None);
     };
     for _ in 0..MOST_ROUNDS {
-        let Some(walk) = walked(alloc, function, &care)? else {
+        let Some(walk) = walked(alloc, function, &plans, &care)? else {
             return Ok(None);
         };
         let Walk {
@@ -767,6 +781,12 @@ pub fn local_function(
                 params,
                 code: items,
             }));
+        }
+        if is_early {
+            match plans_of(alloc, &function.code, &care)? {
+                Some(others) => plans = others,
+                None => return Ok(None),
+            }
         }
     }
     Ok(None)

@@ -107,6 +107,16 @@ struct Walk {
 }
 
 impl Care {
+    /// No value is treated with care, or each value goes early.
+    pub fn none(alloc: Global, is_for_all: bool) -> Care {
+        Care {
+            is_for_all,
+            due: Vec::new(alloc),
+            early: Vec::new(alloc),
+            slotted: Vec::new(alloc),
+        }
+    }
+
     /// Whether the value is due before the statement of this index.
     pub fn is_due(&self, index: usize, value: u32) -> bool {
         self.due
@@ -192,8 +202,9 @@ fn early_of(alloc: Global, values: &[u32], care: &Care) -> Result<Vec<u32>, NoMe
     )
 }
 
-// The values before a statement, by those behind it and those that it adds: its result is none of them.
-fn values_before(behind: Vec<u32>, here: &[u32], into: Option<u32>) -> Result<Vec<u32>, NoMemory> {
+// The values before a statement, by those behind it, among which none stands twice, and those that it adds: as `alive_before`, in the
+// memory of the list of those behind.
+fn put_before(behind: Vec<u32>, here: &[u32], into: Option<u32>) -> Result<Vec<u32>, NoMemory> {
     let mut values = behind;
     if let Some(into) = into {
         if let Some(index) = values.iter().position(|value| *value == into) {
@@ -248,7 +259,7 @@ fn crossing_before(
 ) -> Result<Vec<u32>, NoMemory> {
     let later = alive_behind(alloc, statement.action, &walk.at.crossing, &walk.crossing)?;
     let here = crossing_by(alloc, statement, behind)?;
-    values_before(later, &here, statement.into)
+    put_before(later, &here, statement.into)
 }
 
 // The values that a statement computes with, or branches by. A copy of a value in a register saves nothing where that is copied again:
@@ -268,7 +279,7 @@ fn read_before(alloc: Global, walk: &Walk, statement: &Statement) -> Result<Vec<
         action if spoils_some(action) => Vec::new(alloc),
         action => alive_behind(alloc, action, &walk.at.read, &walk.read)?,
     };
-    values_before(later, read_by(statement), statement.into)
+    put_before(later, read_by(statement), statement.into)
 }
 
 // The values that come to a label to which more than one way leads, by those behind a statement.
@@ -303,7 +314,7 @@ fn joining_before(
         alive_behind(alloc, action, &walk.at.joining, &walk.joining)?
     };
     let here = joining_by(alloc, walk, action, behind, lone)?;
-    values_before(later, &here, statement.into)
+    put_before(later, &here, statement.into)
 }
 
 // The values that both lists have.
@@ -335,7 +346,7 @@ fn worth_of(action: Action) -> u32 {
     }
 }
 
-// Adds a wish. Of two for one value, the one of more worth stays.
+// Adds a wish. Of two for one value, the one of more worth stays: so each value has one wish at most.
 fn add_wish(wishes: &mut Vec<Wish>, wish: Wish) -> Result<(), NoMemory> {
     for other in wishes.iter_mut() {
         if other.value == wish.value {
@@ -490,7 +501,8 @@ fn copies_before(
     let Some(first) = copied_by(statement) else {
         return Ok(Vec::from_slice(alloc, &walk.at.copies)?);
     };
-    let mut copies = Vec::with_capacity(alloc, MOST_AHEAD)?;
+    let most = MOST_AHEAD.min(walk.at.copies.len().saturating_add(1));
+    let mut copies = Vec::with_capacity(alloc, most)?;
     copies.push(first)?;
     for copied in &walk.at.copies {
         if copies.len() < MOST_AHEAD {
@@ -510,14 +522,14 @@ fn plan_before(
     let action = statement.action;
     let into = statement.into;
     let behind = alive_behind(alloc, action, &walk.at.point.alive, &walk.alive)?;
-    let alive = values_before(copy_of(alloc, &behind)?, &statement.args, into)?;
+    let alive = put_before(copy_of(alloc, &behind)?, &statement.args, into)?;
     let held = held_before(alloc, action, &statement.args, &walk.at.point.held)?;
     let later = alive_behind(alloc, action, &walk.at.slotted, &walk.slotted)?;
     let here = slotted_with_care(alloc, statement, &behind, lone, care)?;
-    let slotted = values_before(later, &here, into)?;
+    let slotted = put_before(later, &here, into)?;
     let later = stored_behind(alloc, walk, action)?;
     let here = slotted_by(alloc, statement, &behind)?;
-    let stored = values_before(later, &here, into)?;
+    let stored = put_before(later, &here, into)?;
     Ok(Plan {
         point: Point { alive, held },
         slotted,
