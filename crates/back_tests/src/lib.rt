@@ -8,6 +8,8 @@ mod elf_files;
 #[cfg(test)]
 mod instructions;
 #[cfg(test)]
+mod places;
+#[cfg(test)]
 mod runtime;
 #[cfg(test)]
 mod simulator;
