@@ -11,7 +11,6 @@ use Rattle.cell_heap.specs.ProgramMemory.{HoldsCells}
 use Rattle.cell_runtime.specs.Operations.{Constants, all_bytes}
 use Rattle.cell_runtime.specs.World.{World, first_world, primitives}
 use Rattle.elf_image.specs.Parts.{memory_of}
-use Rattle.elf_image.specs.Program.{text_of}
 use Rattle.elf_image.specs.declared.part.Part.{Part}
 use Rattle.rv_inline.specs.Growth.{most_growth}
 use Rattle.rv_inline.specs.InLine.{most_fresh, HaveInLine, HasInLine}
@@ -23,8 +22,7 @@ use Rattle.rv_inline.proofs.Simulation.{simulates}
 use Rattle.rv_inline.proofs.Starts.{starts, agrees, never_stuck, follows as follows_in_line}
 use Rattle.rv_inline.proofs.ValueCounts.{functions_below}
 use Rattle.rv_inline.proofs.WellFormedness.{program_formed}
-use Rattle.rv_isa.specs.declared.asm.Asm.{Asm}
-use Rattle.rv_isa.specs.AsmCode.{Lines, asm_functions, asm_constants}
+use Rattle.rv_isa.specs.AsmCode.{Lines}
 use Rattle.rv_isa.specs.AsmMachine.{AsmState, AsmTurn, asm_machine, asm_start}
 use Rattle.rv_isa.specs.Costs.{functions_length}
 use Rattle.rv_isa.specs.Execution.{rv32im, run}

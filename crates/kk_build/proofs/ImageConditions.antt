@@ -5,7 +5,6 @@ use Rattle.kk_base.specs.Sizes.{AreSizes, greatest_cells, greatest_depth}
 use Rattle.kk_base.specs.Limits.{greatest_of}
 use Rattle.kk_base.specs.declared.limit.LimitKind.TheVariants.{Fields}
 use Rattle.kk_syntax.specs.declared.ground.Ground.{Ground}
-use Rattle.kk_syntax.specs.declared.typed.Typed.{Typed}
 use Rattle.kk_syntax.specs.PositionsOf.{PositionTable}
 use Rattle.kk_counted.specs.BareForms.{bare_function}
 use Rattle.kk_counted.specs.CountBounds.{AllSpendAtMost}
@@ -16,7 +15,7 @@ use Rattle.kk_counted.specs.Keeping.{FitsAlways, HasShapeAlways, counted_after}
 use Rattle.kk_counted.specs.Kinds.{HasKindsAlways}
 use Rattle.kk_counted.specs.Lowerable.{AreLowerable}
 use Rattle.kk_counted.specs.Marks.{CellMarks, field_marks, AreMarked}
-use Rattle.kk_counted.specs.Programs.{function_of, program_of}
+use Rattle.kk_counted.specs.Programs.{function_of}
 use Rattle.kk_counted.specs.Spending.{IsSpent}
 use Rattle.kk_counted.specs.TokenedCodes.{TokenedFunction, TokenedProgram}
 use Rattle.kk_counted.specs.declared.counted.Counted.{Counted}

@@ -17,7 +17,7 @@ use Rattle.kk_syntax.specs.Shapes.{bound, bound_all, bound_by, is_among, tail_wa
 use Rattle.kk_syntax.specs.Surface.{WrittenPattern, anything, pattern_variable, exactly, constructor, WrittenPatterns, no_part, part, Written, number, unit, variable, call, dot_call, construct, unary, binary, both, either, print_text, branch, branch_alone, match, sequence, Writtens, no_written, written, WrittenRows, no_row, row, WrittenDeclaration, type_declaration, function_declaration}
 use Rattle.kk_syntax.specs.Trees as program
 use Rattle.kk_names.specs.declared.table.Callee.{Callee}
-use Rattle.kk_names.specs.Expressions.{alone, variable_or_unit, applied, pattern_of, constructed, pattern_meant, parts_meant, meant, meant_rows}
+use Rattle.kk_names.specs.Expressions.{variable_or_unit, applied, pattern_of, constructed, pattern_meant, parts_meant, meant, meant_rows}
 use Rattle.kk_names.specs.Names.{before_body, function_of, with_texts, functions_of, MeansProgram}
 use Rattle.kk_names.specs.Scopes.{Scope, binder_of, with_binder, in_row, with_parameters, Before, past_binder, past_pattern, past_parts, past, past_all, past_rows}
 use Rattle.kk_names.specs.Tables.{Known, known_in, meaning_in}

@@ -1,5 +1,5 @@
 -- The lines that touch cells, and those of tests, name few values: the variables and tokens of their form, and temporaries.
-use Rattle.std.proofs.Common.{◌≡◌, ℕ, zero, suc, ◌+◌, ◌*◌, ◌<◌, ◌≤◌, Bool, true, false, List, [], ◌∷◌, ◌++◌, Option, Some, None, refl, sym, subst, arith}
+use Rattle.std.proofs.Common.{◌≡◌, ℕ, zero, suc, ◌+◌, ◌<◌, Bool, true, false, List, [], ◌∷◌, ◌++◌, Option, Some, None, refl, sym, subst, arith}
 use Rattle.std.specs.Prelude.{not, filter, nat_eq, if◌then◌else◌}
 use Rattle.std.proofs.lemmas.Bool.{cond_both}
 use Rattle.kk_syntax.specs.Shapes.{is_among}
@@ -20,7 +20,7 @@ use Rattle.rv_cells.specs.CellLines.{Loads, Stores, AllLoads, AllStores, StoresI
 use Rattle.rv_cells.specs.CellLines.{dups_lines, drops_lines, ConstructLines, hold_line, hold_lines, unhold_lines, SomeWords, FillLines}
 use Rattle.rv_cells.specs.CellLines.{both_ways, TokenUniqueLines, Walks, walked, spare, equal_lines, jump_lines, either_lines}
 use Rattle.rv_cells.specs.CountedLines.{answer_word, answer_tag, Ways, number_tests, last_lines, ChoiceLines, OddLines, DecideLines}
-use Rattle.rv_cells.specs.CountedLines.{TestLines, first_lines, NodeLines, NodesLines}
+use Rattle.rv_cells.specs.CountedLines.{NodeLines, NodesLines}
 
 module _ (most : ℕ) where
   -- ---- words of cells

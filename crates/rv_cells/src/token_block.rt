@@ -146,7 +146,7 @@ fn write_step(
     }
 }
 
-/// The first argument of the first call among steps.
+/// The first argument of the first call among steps. A tail call does not count, nor does a call in a block inside or in an arm.
 fn first_argument(steps: &[TokenedStep]) -> Option<u32> {
     for step in steps {
         if let TokenedStep::Let {

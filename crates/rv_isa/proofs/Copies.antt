@@ -1,6 +1,6 @@
 -- A copy is the one action that copies, a constant that which gives a word that a register holds always, and a load that which may
 -- lose its word.
-use Rattle.std.proofs.Common.{◌≡◌, ◌==◌, ℕ, Option, Some, None, Bool, true, false, cond, refl, ap, subst}
+use Rattle.std.proofs.Common.{◌≡◌, ◌==◌, ℕ, Some, None, Bool, true, false, cond, refl, ap, subst}
 use Rattle.std.proofs.lemmas.Bool.{eqb-true}
 use Rattle.rv_isa.specs.declared.asm.Action.{Action}
 use Rattle.rv_isa.specs.declared.asm.Action.TheVariants.{Compute, Label, Jump, Branch, Call, TailCall, Return, Routine, Hold, Unhold, Room}
@@ -8,7 +8,7 @@ use Rattle.rv_isa.specs.declared.asm.Operation.{Operation}
 use Rattle.rv_isa.specs.declared.asm.Operation.TheVariants as OfOperation
 use Rattle.rv_isa.specs.declared.immediate.Immediate.{Immediate}
 use Rattle.rv_isa.specs.declared.placed.Place.{Place}
-use Rattle.rv_isa.specs.Conventions.{Constant, constants, register_with, one_register, header_register, list_header, home, is_lost}
+use Rattle.rv_isa.specs.Conventions.{constants, register_with, one_register, header_register, list_header, home, is_lost}
 use Rattle.rv_isa.specs.LinePlaces.{is_copy}
 
 mv_is : (operation : Operation) → is_copy (Compute operation) ≡ true → operation ≡ OfOperation.Mv

@@ -1,5 +1,5 @@
 -- What an own line does is always an instruction, and no test.
-use Rattle.std.proofs.Common.{◌≡◌, ℕ, Bool, true, false, not, refl, ap}
+use Rattle.std.proofs.Common.{◌≡◌, ℕ, true, false, not, refl, ap}
 use Rattle.rv_isa.specs.declared.asm.Action.{Action}
 use Rattle.rv_isa.specs.declared.asm.Action.TheVariants.{Compute, Label, Jump, Branch, Call, TailCall, Return, Routine, Hold, Unhold, Room}
 use Rattle.rv_isa.specs.declared.asm.Operation.{Operation}

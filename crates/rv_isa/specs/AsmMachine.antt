@@ -105,7 +105,7 @@ asm_told m (go s) = m.told s.shared
 asm_told m (ended how shared) = m.told shared
 asm_told m stuck = []
 
--- what the next line weighs: the most instructions that it executes, with the moves for its arguments and its result
+-- what the next line weighs: the most instructions that it executes, the moves for its arguments and its result, and its spare ones
 abbrev pub asm_line_weight : {H E W : Type 0} → Primitives H E W → List (Frame Line) → H → Frame Line → List Line → ℕ
 asm_line_weight m frames shared f [] = 0
 asm_line_weight m frames shared f (line ∷ rest) =

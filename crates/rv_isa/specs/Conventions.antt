@@ -28,7 +28,7 @@ abbrev pub one_register : ℕ
 one_register = 3
 
 -- s4 holds a word so too: the header of a cell of tag 1 whose second field alone refers to a cell, as `Cons(head, tail)` of a list of
--- numbers. Programs write it more than any other header.
+-- numbers. No header is more common in the programs of examples/ and bench/.
 abbrev pub header_register : ℕ
 header_register = 20
 
@@ -53,7 +53,7 @@ abbrev pub register_with : ℕ → List Constant → Option ℕ
 register_with word [] = None
 register_with word (constant ∷ more) = cond (constant.word == word) (Some constant.register) (register_with word more)
 
--- the one that holds the word that an action gives
+-- the one that holds the word that an action gives, if one does
 abbrev pub home : Action → Option ℕ
 home (Compute (Li word)) = register_with word constants
 home _ = None

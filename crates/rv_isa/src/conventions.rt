@@ -6,8 +6,8 @@ ghost use Rattle.rv_isa.specs.Conventions.{home, is_constant_register, is_of_con
 
 use crate::{Action, Operation, Place, Register};
 
-/// The header of a cell of tag 1 whose second field alone refers to a cell, as `Cons(head, tail)` of a list of numbers. Programs write
-/// it more than any other header, so `s4` holds it from the start of a run to its end.
+/// The header of a cell of tag 1 whose second field alone refers to a cell, as `Cons(head, tail)` of a list of numbers. No header is
+/// more common in the programs of examples/ and bench/, so `s4` holds it from the start of a run to its end.
 pub const LIST_HEADER: u32 = 1 + 256 * 2;
 
 impl Register {

@@ -1,5 +1,5 @@
 -- Code that begins with a head, and the rotated code.
-use Rattle.std.proofs.Common.{◌≡◌, ℕ, ◌+◌, List, [], ◌∷◌, ◌++◌, None, length, map, drop, refl, sym, ap, ◌∙◌}
+use Rattle.std.proofs.Common.{◌≡◌, ℕ, ◌+◌, List, ◌∷◌, ◌++◌, None, length, map, drop, sym, ap, ◌∙◌}
 use Rattle.std.proofs.Math.Seq.{drop-append-add}
 use Rattle.std.proofs.lemmas.List.{drop-map, length-map}
 use Rattle.rv_isa.specs.declared.placed.Item.{Item}

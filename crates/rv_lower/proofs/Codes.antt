@@ -1,6 +1,6 @@
 -- The lines of a code are well formed, and have only its own labels.
 use Rattle.std.proofs.Common.{◌≡◌, ℕ, ◌+◌, ◌<◌, ◌≤◌, ◌⊎◌, inl, inr, true, List, [], ◌∷◌, ◌++◌, length, None, IsSome}
-use Rattle.std.proofs.Common.{refl, sym, ap, subst, ◌∙◌, arith, append_assoc}
+use Rattle.std.proofs.Common.{refl, sym, subst, ◌∙◌, arith, append_assoc}
 use Rattle.std.proofs.lemmas.Bool.{or_cases, false≢true}
 use Rattle.std.proofs.lemmas.List.Elements.{All-nil, All-cons}
 use Rattle.kk_base.specs.Limits.{greatest_of}
@@ -19,7 +19,7 @@ use Rattle.rv_lower.proofs.WellFormedness.{Each, all_each, AllBound, formed_effe
 use Rattle.rv_lower.proofs.WellFormedness.{AreFormed, formed_more, Good, HasRoom, weaker, alive_line, to_variable, good_hands, readable_small}
 use Rattle.rv_lower.proofs.AbsentLabels.{HasNo, has_no_append, found_none, found_past, found_here, alive_at_past, alive_at_here, other_label}
 use Rattle.rv_lower.proofs.Labels.{found_label}
-use Rattle.rv_lower.proofs.Operations.{Leads, copied, only_bound}
+use Rattle.rv_lower.proofs.Operations.{Leads, copied}
 
 -- The goal of a code stands ahead, in what follows: its label is none of the code's own, and there only variables that are bound at
 -- the goal, or the goal's, are alive.

@@ -1,7 +1,5 @@
 -- The lines of a form name few values: its variable, its arguments, and eight temporaries at most.
-use Rattle.std.proofs.Common.{◌≡◌, ℕ, zero, suc, ◌+◌, ◌<◌, ◌≤◌, List, [], ◌∷◌, ◌++◌, Option, Some, length, sym, subst, arith}
-use Rattle.kk_base.specs.Limits.{greatest_of}
-use Rattle.kk_base.specs.declared.limit.LimitKind.TheVariants.{Parameters}
+use Rattle.std.proofs.Common.{ℕ, zero, suc, ◌+◌, ◌<◌, ◌≤◌, List, [], ◌∷◌, ◌++◌, Option, Some, length, sym, subst, arith}
 use Rattle.kk_syntax.specs.declared.operator.UnaryOperator.TheVariants.{Negate, Not}
 use Rattle.kk_syntax.specs.declared.operator.BinaryOperator.{BinaryOperator}
 use Rattle.kk_syntax.specs.declared.operator.BinaryOperator.TheVariants as Of

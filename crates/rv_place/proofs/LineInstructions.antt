@@ -23,7 +23,7 @@ use Rattle.rv_isa.specs.declared.routine.Routine as routine
 use Rattle.rv_isa.specs.PlacedCode.{PlacedLine, moves, PlacedLines}
 use Rattle.rv_isa.specs.Standing.{Code}
 use Rattle.rv_isa.proofs.RangeEquality.{same_register}
-use Rattle.rv_place.specs.Registers.{ra, s3}
+use Rattle.rv_place.specs.Registers.{s3}
 use Rattle.rv_place.specs.Instructions.{words_of_jump, JumpsTo, CallsTo, CallsRoutine, words_of_routine, BranchesOn, HoldsToken, words_to_hold, UnholdsToken, words_of_operation}
 use Rattle.rv_isa.specs.FrameSizes.{slots_of_place, slots_of_operands}
 use Rattle.rv_place.specs.Addresses.{branch_words, is_at_pointer, slot_offset, way_offset, words_of_shift, words_of_action, words_of_line, words_of_lines, forms_of, takes_frame, words_to_frame, test_words, entry_words, skipped_words, entries_from, words_of_function, words_of_functions}

@@ -1,4 +1,4 @@
-use Rattle.std.proofs.Common.{◌≤◌, List, ℕ, map, sym, subst, arith}
+use Rattle.std.proofs.Common.{List, ℕ, map, sym, subst, arith}
 use Rattle.rv_isa.specs.declared.asm.Statement.{Statement}
 use Rattle.rv_isa.specs.AsmCode.{line_of}
 use Rattle.rv_isa.specs.ValueBounds.{AreValuesBelow, AreLinesBelow}

@@ -1,4 +1,4 @@
-use Rattle.std.proofs.Common.{◌+◌, ◌<◌, ◌≤◌, ◌∷◌, List, ℕ, drop, get_or, length, subst, arith}
+use Rattle.std.proofs.Common.{List, ℕ, subst}
 use Rattle.std.proofs.lemmas.List.{drop_more}
 use Rattle.rv_isa.specs.ValueBounds.{AreValuesBelow}
 use Rattle.rv_regs.proofs.modest.values_behind.Goals as goal
