@@ -33,7 +33,7 @@ pub fn start(layout: Layout) -> [Native; 8]
 }
 
 /// How a run ends.
-#[derive(Clone, Copy, PartialEq, Eq, Debug)]
+#[derive(Clone, Copy, PartialEq, Eq)]
 pub enum Ending {
     /// `main` has returned.
     Ended,

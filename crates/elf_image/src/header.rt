@@ -33,7 +33,7 @@ pub const FILE_HEADER_SIZE: u16 = 52;
 pub const PROGRAM_HEADER_SIZE: u16 = 32;
 
 /// What a file header says of the program.
-#[derive(Clone, Copy, Debug)]
+#[derive(Clone, Copy)]
 pub struct FileHeader {
     /// The address of the first instruction.
     pub entry: u32,
@@ -78,7 +78,7 @@ impl FileHeader {
 }
 
 /// A program header, without its physical address and its alignment.
-#[derive(Clone, Copy, Debug)]
+#[derive(Clone, Copy)]
 pub struct ProgramHeader {
     /// The type of what it describes.
     pub kind: u32,

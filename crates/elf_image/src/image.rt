@@ -17,7 +17,7 @@ pub const GREATEST_END: u64 = 0xf000_0000;
 
 /// A program as a machine loads it. No two parts share an address, none ends above 0xf000_0000, and none has more bytes
 /// than addresses.
-#[derive(Debug, Drop)]
+#[derive(Drop)]
 pub struct Image {
     /// The address of the first instruction, a multiple of 4 in a part that may be executed.
     pub entry: u32,

@@ -4,7 +4,7 @@ ghost use Rattle.elf_image.specs.Parts.{loaded};
 use kk_base::{Bytes, Items};
 
 /// A part of the addresses that a program is loaded to.
-#[derive(Debug, Drop)]
+#[derive(Drop)]
 pub struct Part {
     /// The first address.
     pub vaddr: u32,

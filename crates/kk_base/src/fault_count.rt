@@ -4,7 +4,7 @@ ghost use Rattle.kk_base.specs.Faults.{Counts, count_after};
 use std::marker::Model;
 
 /// How many calls of a device have failed. It never falls, and stays at the last value of a u64.
-#[derive(Debug, Drop)]
+#[derive(Drop)]
 pub struct FaultCount {
     count: u64,
 }

@@ -5,7 +5,7 @@ use std::alloc::Global;
 use std::marker::Model;
 
 /// A list of items, of which a contract sees the items alone.
-#[derive(Debug, Drop)]
+#[derive(Drop)]
 pub struct Items<T: Drop> {
     items: Vec<T>,
 }

@@ -29,7 +29,7 @@ pub enum Put {
 }
 
 /// What a store gives for a name.
-#[derive(Debug, Drop)]
+#[derive(Drop)]
 pub enum Read {
     Bytes(Bytes),
     Failed,
@@ -47,7 +47,7 @@ pub enum Wrote {
 }
 
 /// A call on a store, with the name that it was given.
-#[derive(Debug, Drop)]
+#[derive(Drop)]
 pub enum StoreCall {
     Reading(Name),
     Writing(Name),

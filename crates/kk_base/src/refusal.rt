@@ -4,7 +4,7 @@ use crate::limit::Limit;
 use crate::name::Name;
 
 /// Why a text is not accepted: its first failure.
-#[derive(Debug, Drop)]
+#[derive(Drop)]
 pub enum Refusal {
     Lex(LexError),
     Parse(ParseError),

@@ -1,5 +1,5 @@
 /// A place in a source text.
-#[derive(Clone, Copy, Debug, PartialEq, Eq)]
+#[derive(Clone, Copy, PartialEq, Eq)]
 pub struct Span {
     /// The byte, from 0.
     pub at: u32,

@@ -2,7 +2,7 @@ ghost use Rattle.std.specs.Prelude.{◌≡◌, vec_len};
 ghost use Rattle.kk_core.specs.Decisions.{IsOrderly};
 
 /// What stands at a position of a value, and what a row asks for there.
-#[derive(Clone, Copy, Debug, PartialEq, Eq, Hash)]
+#[derive(Clone, Copy, PartialEq, Eq, Hash)]
 pub enum Answer {
     Number(i32),
     /// The constructor that made the value, by its number.
@@ -10,7 +10,7 @@ pub enum Answer {
 }
 
 /// Where a test leads if it finds an answer.
-#[derive(Clone, Copy, Debug, PartialEq, Eq)]
+#[derive(Clone, Copy, PartialEq, Eq)]
 pub struct Edge {
     pub found: Answer,
     /// The number of a later node.
@@ -18,7 +18,7 @@ pub struct Edge {
 }
 
 /// A node of decisions.
-#[derive(Debug, Drop)]
+#[derive(Drop)]
 pub enum Node {
     /// The row of this number is chosen.
     Choose(u32),
@@ -30,7 +30,7 @@ pub enum Node {
 
 /// Which row of a match is taken, decided by tests of one position each. The first node is the start; each node names
 /// later nodes alone, so the decisions end.
-#[derive(Debug, Drop)]
+#[derive(Drop)]
 pub struct Decisions {
     nodes: Vec<Node>,
     rows: u32,

@@ -5,7 +5,7 @@ use crate::shape::ConstructorShape;
 use kk_syntax::{Form, Pat, StringLiteral};
 
 /// A program in core form.
-#[derive(Debug, Drop)]
+#[derive(Drop)]
 pub struct Core {
     /// The functions, in the order of the program that it was made of: a call names one by its number, from 0.
     pub functions: Vec<CoreFunction>,
@@ -24,7 +24,7 @@ pub struct Core {
 
 /// A function in core form. Its variables are numbered: each that it binds has a number of its own, and all that is
 /// computed later has a greater one.
-#[derive(Debug, Drop)]
+#[derive(Drop)]
 pub struct CoreFunction {
     /// The number of its parameters: parameter `i` is variable `i`.
     pub parameters: u32,
@@ -39,7 +39,7 @@ pub struct CoreFunction {
 
 /// Steps in their order, and how the block ends.
 #[cycle(block)]
-#[derive(Debug, Drop)]
+#[derive(Drop)]
 pub struct Block {
     pub steps: Vec<Step>,
     pub last: Last,
@@ -47,7 +47,7 @@ pub struct Block {
 
 /// A step of a block.
 #[cycle(block)]
-#[derive(Debug, Drop)]
+#[derive(Drop)]
 pub enum Step {
     /// The variable takes the value of the form on the variables behind it: of a number or another form without
     /// arguments, an operator, a print, a construction, or a call that is no tail call.
@@ -64,7 +64,7 @@ pub enum Step {
 /// How a block ends. A block that is a step of another ends by giving its value to that step's variable, and has no
 /// tail call.
 #[cycle(block)]
-#[derive(Debug, Drop)]
+#[derive(Drop)]
 pub enum Last {
     /// By giving the value of a variable.
     Return(u32),
@@ -79,7 +79,7 @@ pub enum Last {
 /// An arm of a case: the pattern of its row, by which its block is typed, and the block, which opens what it needs. The
 /// machine does not look at the pattern.
 #[cycle(block)]
-#[derive(Debug, Drop)]
+#[derive(Drop)]
 pub struct Arm {
     pub pattern: Pat,
     pub body: Block,

@@ -1,5 +1,5 @@
 /// What is known of a ground constructor: what its cells look like, and which of its values can be cells.
-#[derive(Debug, Drop)]
+#[derive(Drop)]
 pub struct ConstructorShape {
     /// The number of its ground type.
     pub of_type: u32,

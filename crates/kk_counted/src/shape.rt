@@ -5,7 +5,7 @@ use kk_core::ConstructorShape;
 use kk_syntax::Ownership;
 
 /// A parameter of an instance. Parameter `i` is variable `i` of its function.
-#[derive(Clone, Copy, Debug, PartialEq, Eq)]
+#[derive(Clone, Copy, PartialEq, Eq)]
 pub struct Parameter {
     pub ownership: Ownership,
     /// Whether its type has cells.
@@ -13,7 +13,7 @@ pub struct Parameter {
 }
 
 /// What is known of an instance: how its parameters are passed, and which of its values can be cells.
-#[derive(Debug, Drop)]
+#[derive(Drop)]
 pub struct InstanceShape {
     pub parameters: Vec<Parameter>,
     /// Whether the type of its result has cells.
@@ -22,7 +22,7 @@ pub struct InstanceShape {
 
 /// What the functions of a program are called with, and what its constructors hold. The constructors of a type have the
 /// tags 0, 1, 2 and so on in their order, and a type has cells exactly where one of its constructors has a field.
-#[derive(Debug, Drop)]
+#[derive(Drop)]
 pub struct Shape {
     instances: Vec<InstanceShape>,
     constructors: Vec<ConstructorShape>,

@@ -1,7 +1,7 @@
 use kk_syntax::Pat;
 
 /// What a row asks of a value at a position.
-#[derive(Clone, Copy, Debug)]
+#[derive(Clone, Copy)]
 pub enum Slot<'a> {
     /// Nothing: `_` or a variable.
     Any,
@@ -11,7 +11,7 @@ pub enum Slot<'a> {
 }
 
 /// What is known of the value at a position that was passed.
-#[derive(Clone, Copy, Debug)]
+#[derive(Clone, Copy)]
 pub enum Head {
     /// Nothing: no row looks there.
     Free,
@@ -21,7 +21,7 @@ pub enum Head {
 }
 
 /// What rows ask for at their first position.
-#[derive(Clone, Copy, Debug)]
+#[derive(Clone, Copy)]
 pub enum Asked {
     Nothing,
     Number,
@@ -30,7 +30,7 @@ pub enum Asked {
 }
 
 /// Rows that are left, once some positions are known.
-#[derive(Debug, Drop)]
+#[derive(Drop)]
 pub struct Problem<'a> {
     /// The positions that are known, outer before inner and left before right.
     pub path: Vec<Head>,

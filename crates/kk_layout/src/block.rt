@@ -3,7 +3,7 @@ ghost use Rattle.std.specs.List.{prefix_len};
 ghost use Rattle.kk_layout.specs.Blocks.{column_of, is_deeper, is_implicit, innermost_column};
 
 /// A block above the base, with its column.
-#[derive(Clone, Copy, Debug)]
+#[derive(Clone, Copy)]
 pub enum Block {
     /// The layout opened it: its braces are inserted.
     Implicit(u32),

@@ -101,7 +101,7 @@ fn labelled_statements(
 
 /// Numbers of instances, which stand for the functions that a body calls, and of ground constructors, which stand for the
 /// constructors that it builds and matches with, each in the order of the text.
-#[derive(Debug, Drop)]
+#[derive(Drop)]
 pub struct Labels {
     functions: Vec<u32>,
     constructors: Vec<u32>,

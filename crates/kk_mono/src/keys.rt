@@ -11,14 +11,14 @@ use std::alloc::Global;
 
 /// An instance or a ground constructor: the number of its function or constructor, and the numbers of the types that stand
 /// for its type variables.
-#[derive(Debug, PartialEq, Eq, Hash, Drop)]
+#[derive(PartialEq, Eq, Hash, Drop)]
 pub struct Key {
     pub number: u32,
     pub arguments: Vec<u32>,
 }
 
 /// The instances or the ground constructors that are known, each once, in the order of first sight.
-#[derive(Debug, Drop)]
+#[derive(Drop)]
 pub struct Keys {
     keys: IndexSet<Key>,
 }

@@ -15,7 +15,7 @@ use kk_syntax::{BodyTypes, Constructor, Fun, Taken, Typed};
 use std::alloc::Global;
 
 /// What has been seen in an instance.
-#[derive(Debug, Drop)]
+#[derive(Drop)]
 pub struct Looked {
     /// The numbers of the types of its parameters.
     pub parameters: Vec<u32>,
@@ -31,7 +31,7 @@ pub struct Looked {
 
 /// The work list of the search for instances: all instances and ground constructors that are known so far. Those instances that
 /// have been looked at come first.
-#[derive(Debug, Drop)]
+#[derive(Drop)]
 pub struct Found {
     pub types: Types,
     pub keys: Keys,

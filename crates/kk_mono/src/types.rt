@@ -10,7 +10,7 @@ use kk_syntax::GroundType;
 use std::alloc::Global;
 
 /// Types without variables, each once, by numbers that stay while others are added.
-#[derive(Debug, Drop)]
+#[derive(Drop)]
 pub struct Types {
     nodes: IndexSet<GroundType>,
     ghost begins: { IsTrue (begin_with_unit nodes.keys) },

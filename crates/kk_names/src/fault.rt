@@ -5,7 +5,7 @@ ghost use Rattle.kk_names.specs.Methods.{is_before};
 use kk_base::{Name, NameError};
 
 /// What is wrong with a name.
-#[derive(Clone, Copy, Debug, PartialEq, Eq)]
+#[derive(Clone, Copy, PartialEq, Eq)]
 pub enum FaultKind {
     /// It is declared a second time.
     Twice,
@@ -29,7 +29,7 @@ impl FaultKind {
 }
 
 /// A fault of a text: what is wrong with which name, and the byte where that stands, from 0.
-#[derive(Debug, Drop)]
+#[derive(Drop)]
 pub struct Fault {
     pub kind: FaultKind,
     pub name: Name,

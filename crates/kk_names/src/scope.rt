@@ -12,7 +12,7 @@ use kk_syntax::{Parameter, SurfaceType};
 use std::alloc::Global;
 
 /// A variable that is bound: its name, and its number among the variables of its function.
-#[derive(Debug, Drop)]
+#[derive(Drop)]
 pub struct Bound {
     pub name: Name,
     pub number: u32,

@@ -6,7 +6,7 @@ use kk_syntax::{Form, PrintForm, Program};
 use std::alloc::Global;
 
 /// What a name of a function or of a constructor means.
-#[derive(Clone, Copy, Debug)]
+#[derive(Clone, Copy)]
 pub struct Callee {
     pub form: Form,
     /// The number of arguments that the form has.
@@ -14,7 +14,7 @@ pub struct Callee {
 }
 
 /// What a name of a type means.
-#[derive(Clone, Copy, Debug)]
+#[derive(Clone, Copy)]
 pub struct TypeMeaning {
     /// The number of the type; `int32` has none.
     pub number: Option<u32>,
@@ -23,14 +23,14 @@ pub struct TypeMeaning {
 }
 
 /// A name, and what it means.
-#[derive(Debug, Drop)]
+#[derive(Drop)]
 pub struct Declared {
     pub name: Name,
     pub callee: Callee,
 }
 
 /// A name of a type, and what it means.
-#[derive(Debug, Drop)]
+#[derive(Drop)]
 pub struct DeclaredType {
     pub name: Name,
     pub meaning: TypeMeaning,

@@ -3,7 +3,7 @@ ghost use Rattle.kk_norm.specs.Names.{name_of};
 ghost use Rattle.kk_norm.specs.Written.{names_of};
 
 /// A variable of a source function, and the variable of the core form that has its value.
-#[derive(Clone, Copy, Debug, Drop)]
+#[derive(Clone, Copy, Drop)]
 pub struct Named {
     pub variable: u32,
     pub name: u32,

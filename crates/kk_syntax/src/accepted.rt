@@ -7,7 +7,7 @@ use crate::typed::Typed;
 
 /// A text that is accepted: its program with its types, and its instances. The program is checked: it is typed by these types,
 /// its matches are covered, the literals that it prints are there, and its `main` takes nothing and gives `()`.
-#[derive(Debug, Drop)]
+#[derive(Drop)]
 pub struct Accepted {
     pub typed: Typed,
     pub instances: Ground,

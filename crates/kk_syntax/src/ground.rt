@@ -8,7 +8,7 @@ use crate::typed::Taken;
 
 /// The instances of a program: all that `main` comes to, at types without variables. They are within the limits on parameters,
 /// fields, constructors, nodes and instances.
-#[derive(Debug, Drop)]
+#[derive(Drop)]
 pub struct Ground {
     /// The types of the program, as they are declared.
     pub declarations: Vec<TypeDecl>,
@@ -30,7 +30,7 @@ pub struct Ground {
 }
 
 /// A type without variables, as a node among others: its arguments are nodes before it, by their numbers.
-#[derive(Clone, Debug, PartialEq, Eq, Hash, Drop)]
+#[derive(Clone, PartialEq, Eq, Hash, Drop)]
 pub enum GroundType {
     Int32,
     /// `()`
@@ -40,7 +40,7 @@ pub enum GroundType {
 }
 
 /// A constructor at types without variables: it makes values of one type alone.
-#[derive(Debug, Drop)]
+#[derive(Drop)]
 pub struct GroundConstructor {
     /// The number of its constructor in the program.
     pub constructor: u32,
@@ -53,7 +53,7 @@ pub struct GroundConstructor {
 }
 
 /// A function at types without variables.
-#[derive(Debug, Drop)]
+#[derive(Drop)]
 pub struct Instance {
     /// The number of its function in the program.
     pub function: u32,

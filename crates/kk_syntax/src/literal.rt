@@ -6,7 +6,7 @@ use std::alloc::Global;
 use std::marker::Model;
 
 /// A string literal: its bytes after escapes, of which there are at most `GREATEST_STRING`.
-#[derive(Debug, Drop)]
+#[derive(Drop)]
 pub struct StringLiteral {
     text: Text,
 }

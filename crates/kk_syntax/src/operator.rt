@@ -1,5 +1,5 @@
 /// An operator on one value.
-#[derive(Clone, Copy, Debug, PartialEq, Eq)]
+#[derive(Clone, Copy, PartialEq, Eq)]
 pub enum UnaryOperator {
     /// `~`, on a number
     Negate,
@@ -8,7 +8,7 @@ pub enum UnaryOperator {
 }
 
 /// An operator on two numbers. A comparison gives a `bool`.
-#[derive(Clone, Copy, Debug, PartialEq, Eq)]
+#[derive(Clone, Copy, PartialEq, Eq)]
 pub enum BinaryOperator {
     Add,
     Subtract,
@@ -26,7 +26,7 @@ pub enum BinaryOperator {
 }
 
 /// How a print ends its piece.
-#[derive(Clone, Copy, Debug, PartialEq, Eq)]
+#[derive(Clone, Copy, PartialEq, Eq)]
 pub enum PrintForm {
     /// `print`: the piece alone.
     Print,

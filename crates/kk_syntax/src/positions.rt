@@ -3,7 +3,7 @@ ghost use Rattle.kk_syntax.specs.OwnedPositions.{owned_in};
 ghost use Rattle.kk_syntax.specs.PositionsOf.{is_lent, lends, positions_of};
 
 /// How an argument is passed at a parameter.
-#[derive(Clone, Copy, Debug, PartialEq, Eq)]
+#[derive(Clone, Copy, PartialEq, Eq)]
 pub enum Ownership {
     /// The called function has it.
     Owned,
@@ -12,14 +12,14 @@ pub enum Ownership {
 }
 
 /// A function and one of its parameters, both by their numbers, from 0.
-#[derive(Clone, Copy, Debug, PartialEq, Eq)]
+#[derive(Clone, Copy, PartialEq, Eq)]
 pub struct Position {
     pub function: usize,
     pub parameter: usize,
 }
 
 /// For each function and each parameter, whether it is owned or lent; one that is not told of is owned.
-#[derive(Debug, Drop)]
+#[derive(Drop)]
 pub struct Positions {
     /// By the function's number, and the parameter's.
     pub functions: Vec<Vec<Ownership>>,

@@ -5,7 +5,7 @@ use crate::operator::{BinaryOperator, PrintForm, UnaryOperator};
 use kk_base::Name;
 
 /// A program whose names are resolved: types, constructors and functions are named by their numbers, from 0.
-#[derive(Debug, Drop)]
+#[derive(Drop)]
 pub struct Program {
     /// `bool`, which is built in, and then the declared types in the order of the text.
     pub types: Vec<TypeDecl>,
@@ -39,7 +39,7 @@ impl Program {
 }
 
 /// A declared type.
-#[derive(Debug, Drop)]
+#[derive(Drop)]
 pub struct TypeDecl {
     pub name: Name,
     /// The byte of its name, from 0; 0 for `bool`.
@@ -53,7 +53,7 @@ pub struct TypeDecl {
 }
 
 /// A constructor of a type.
-#[derive(Debug, Drop)]
+#[derive(Drop)]
 pub struct Constructor {
     pub name: Name,
     /// The byte of its name, from 0; 0 for those of `bool`.
@@ -67,7 +67,7 @@ pub struct Constructor {
 }
 
 /// A declared function.
-#[derive(Debug, Drop)]
+#[derive(Drop)]
 pub struct Fun {
     pub name: Name,
     /// The byte of its name, from 0.
@@ -82,7 +82,7 @@ pub struct Fun {
 
 /// A type, over the type variables of a declared type or of a function, which are numbered in the order in which the
 /// text first names them.
-#[derive(Debug, Drop)]
+#[derive(Drop)]
 pub enum Ty {
     Int32,
     /// `()`
@@ -95,7 +95,7 @@ pub enum Ty {
 /// An expression. Its variables are numbered: each binder of a function, which is a parameter, a `val` or a variable
 /// of a pattern, has a number of its own there, in the order of the text.
 #[cycle(expression)]
-#[derive(Debug, Drop)]
+#[derive(Drop)]
 pub enum Expr {
     Variable(u32),
     /// A form and its arguments.
@@ -108,7 +108,7 @@ pub enum Expr {
 }
 
 /// What is done with the values of arguments.
-#[derive(Clone, Copy, Debug, PartialEq, Eq)]
+#[derive(Clone, Copy, PartialEq, Eq)]
 pub enum Form {
     /// A number. No arguments.
     Number(i32),
@@ -130,7 +130,7 @@ pub enum Form {
 
 /// A row of a match.
 #[cycle(expression)]
-#[derive(Debug, Drop)]
+#[derive(Drop)]
 pub struct Row {
     pub pattern: Pat,
     pub body: Expr,
@@ -138,14 +138,14 @@ pub struct Row {
 
 /// A statement of a block.
 #[cycle(expression)]
-#[derive(Debug, Drop)]
+#[derive(Drop)]
 pub struct Statement {
     pub binder: Binder,
     pub value: Expr,
 }
 
 /// What a statement does with its value.
-#[derive(Clone, Copy, Debug, PartialEq, Eq)]
+#[derive(Clone, Copy, PartialEq, Eq)]
 pub enum Binder {
     /// Nothing: the statement is an expression.
     Nothing,

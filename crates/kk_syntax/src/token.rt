@@ -57,7 +57,7 @@ pub enum Symbol {
 }
 
 /// A token of a source text.
-#[derive(Debug, Drop)]
+#[derive(Drop)]
 pub enum Token {
     /// A name that begins with a lower-case letter.
     Name(Name),
@@ -74,14 +74,14 @@ pub enum Token {
 }
 
 /// A token and the place of its first byte.
-#[derive(Debug, Drop)]
+#[derive(Drop)]
 pub struct LocatedToken {
     pub token: Token,
     pub span: Span,
 }
 
 /// The tokens of a text, in order, and the place of the text's end.
-#[derive(Debug, Drop)]
+#[derive(Drop)]
 pub struct Tokens {
     items: Vec<LocatedToken>,
     end: Span,

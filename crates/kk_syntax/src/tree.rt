@@ -3,7 +3,7 @@ use crate::operator::{BinaryOperator, PrintForm, UnaryOperator};
 use kk_base::Name;
 
 /// A name as it stands in a text.
-#[derive(Debug, Drop)]
+#[derive(Drop)]
 pub struct Identifier {
     pub name: Name,
     /// Its first byte, from 0.
@@ -11,7 +11,7 @@ pub struct Identifier {
 }
 
 /// What a text spells, its names not yet resolved.
-#[derive(Debug, Drop)]
+#[derive(Drop)]
 pub struct Tree {
     /// In the order of the text.
     pub declarations: Vec<Declaration>,
@@ -20,14 +20,14 @@ pub struct Tree {
 }
 
 /// A declaration of a text.
-#[derive(Debug, Drop)]
+#[derive(Drop)]
 pub enum Declaration {
     Type(TypeDeclaration),
     Function(FunctionDeclaration),
 }
 
 /// A declared type.
-#[derive(Debug, Drop)]
+#[derive(Drop)]
 pub struct TypeDeclaration {
     pub name: Identifier,
     /// Its type variables.
@@ -36,21 +36,21 @@ pub struct TypeDeclaration {
 }
 
 /// A declared constructor, and its fields.
-#[derive(Debug, Drop)]
+#[derive(Drop)]
 pub struct ConstructorDeclaration {
     pub name: Identifier,
     pub fields: Vec<Parameter>,
 }
 
 /// A parameter of a function, or a field of a constructor.
-#[derive(Debug, Drop)]
+#[derive(Drop)]
 pub struct Parameter {
     pub name: Identifier,
     pub of_type: SurfaceType,
 }
 
 /// A declared function.
-#[derive(Debug, Drop)]
+#[derive(Drop)]
 pub struct FunctionDeclaration {
     pub name: Identifier,
     pub parameters: Vec<Parameter>,
@@ -62,7 +62,7 @@ pub struct FunctionDeclaration {
 }
 
 /// An effect, as in `console ()`.
-#[derive(Clone, Copy, Debug, PartialEq, Eq)]
+#[derive(Clone, Copy, PartialEq, Eq)]
 pub enum Effect {
     Total,
     Div,
@@ -71,7 +71,7 @@ pub enum Effect {
 }
 
 /// A type as it is written.
-#[derive(Debug, Drop)]
+#[derive(Drop)]
 pub enum SurfaceType {
     /// `()`
     Unit,
@@ -83,7 +83,7 @@ pub enum SurfaceType {
 
 /// An expression as it is written. Brackets, and the braces of a block without statements, leave no trace.
 #[cycle(surface)]
-#[derive(Debug, Drop)]
+#[derive(Drop)]
 pub enum SurfaceExpr {
     Number(i32),
     /// `()`
@@ -112,7 +112,7 @@ pub enum SurfaceExpr {
 
 /// A row of a match.
 #[cycle(surface)]
-#[derive(Debug, Drop)]
+#[derive(Drop)]
 pub struct SurfaceRow {
     pub pattern: SurfacePattern,
     pub body: SurfaceExpr,
@@ -120,14 +120,14 @@ pub struct SurfaceRow {
 
 /// A statement of a block.
 #[cycle(surface)]
-#[derive(Debug, Drop)]
+#[derive(Drop)]
 pub struct SurfaceStatement {
     pub binder: SurfaceBinder,
     pub value: SurfaceExpr,
 }
 
 /// What a statement does with its value.
-#[derive(Debug, Drop)]
+#[derive(Drop)]
 pub enum SurfaceBinder {
     /// Nothing: the statement is an expression.
     Nothing,
@@ -138,7 +138,7 @@ pub enum SurfaceBinder {
 }
 
 /// A pattern as it is written.
-#[derive(Debug, Drop)]
+#[derive(Drop)]
 pub enum SurfacePattern {
     Wildcard,
     Variable(Identifier),

@@ -2,7 +2,7 @@ use crate::program::Program;
 
 /// A type as a node among others: its arguments are nodes before it, by their numbers. So a part that two types share
 /// is there once.
-#[derive(Debug, Drop)]
+#[derive(Drop)]
 pub enum TypeNode {
     Int32,
     /// `()`
@@ -14,7 +14,7 @@ pub enum TypeNode {
 }
 
 /// The types that are taken at a place of a body, by the numbers of their nodes.
-#[derive(Debug, Drop)]
+#[derive(Drop)]
 pub enum Taken {
     /// For the type variables of a constructor that is used, by its number, in their order: by a construction or by a
     /// pattern.
@@ -26,7 +26,7 @@ pub enum Taken {
 }
 
 /// The types that are taken in the body of a function.
-#[derive(Debug, Drop)]
+#[derive(Drop)]
 pub struct BodyTypes {
     pub nodes: Vec<TypeNode>,
     /// In the order of the text: a use before its arguments; a statement before its value, and a match before its
@@ -35,7 +35,7 @@ pub struct BodyTypes {
 }
 
 /// A program, and the types that it is taken at.
-#[derive(Debug, Drop)]
+#[derive(Drop)]
 pub struct Typed {
     pub program: Program,
     /// For each function, by its number.

@@ -1,7 +1,7 @@
 // What an instruction asks of the machine that executes it.
 
 /// The effect of one instruction: where the next one stands, and what is done besides.
-#[derive(Clone, Copy, PartialEq, Eq, Debug)]
+#[derive(Clone, Copy, PartialEq, Eq)]
 pub struct Effect {
     /// The address of the next instruction. It may be misaligned after a taken transfer.
     pub next: u32,
@@ -9,7 +9,7 @@ pub struct Effect {
 }
 
 /// What an instruction does to the registers and the memory.
-#[derive(Clone, Copy, PartialEq, Eq, Debug)]
+#[derive(Clone, Copy, Debug, PartialEq, Eq)]
 pub enum Act {
     Nothing,
     /// rd becomes this word.

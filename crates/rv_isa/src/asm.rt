@@ -8,7 +8,7 @@ use crate::{Immediate, ShiftAmount};
 use kk_base::Text;
 
 /// A program in assembler form. A call names a function by its index.
-#[derive(Debug, Drop)]
+#[derive(Drop)]
 pub struct Asm {
     pub functions: Vec<AsmFunction>,
     /// Constant bytes, as the texts of prints. They stand in memory one behind the other; where is known when the text is
@@ -17,14 +17,14 @@ pub struct Asm {
 }
 
 /// A function: the values that its caller passes, and its code. Values are numbers of the function's own.
-#[derive(Debug, Drop)]
+#[derive(Drop)]
 pub struct AsmFunction {
     pub params: Vec<u32>,
     pub code: Vec<Statement>,
 }
 
 /// What is done, the values that are read for it, and the value that is written.
-#[derive(Debug, Drop)]
+#[derive(Drop)]
 pub struct Statement {
     pub action: Action,
     pub args: Vec<u32>,
@@ -32,7 +32,7 @@ pub struct Statement {
 }
 
 /// What a statement does, apart from its values.
-#[derive(Clone, Copy, PartialEq, Eq, Debug)]
+#[derive(Clone, Copy, PartialEq, Eq)]
 pub enum Action {
     /// An operation on words.
     Compute(Operation),
@@ -61,7 +61,7 @@ pub enum Action {
 }
 
 /// When a branch is taken, by the names of the instructions.
-#[derive(Clone, Copy, PartialEq, Eq, Debug)]
+#[derive(Clone, Copy, PartialEq, Eq)]
 pub enum Condition {
     /// `beq`
     Equal,
@@ -95,7 +95,7 @@ impl Condition {
 
 /// An operation on words: an instruction of RV32IM that sets a register, loads or stores; or a pseudo-instruction of the
 /// assembler.
-#[derive(Clone, Copy, PartialEq, Eq, Debug)]
+#[derive(Clone, Copy, PartialEq, Eq)]
 pub enum Operation {
     /// On two values.
     Register(RegisterOperation),
@@ -120,7 +120,7 @@ pub enum Operation {
 }
 
 /// An instruction on two registers.
-#[derive(Clone, Copy, PartialEq, Eq, Debug)]
+#[derive(Clone, Copy, PartialEq, Eq)]
 pub enum RegisterOperation {
     Add,
     Sub,
@@ -143,7 +143,7 @@ pub enum RegisterOperation {
 }
 
 /// An instruction on a register and an immediate.
-#[derive(Clone, Copy, PartialEq, Eq, Debug)]
+#[derive(Clone, Copy, PartialEq, Eq)]
 pub enum ImmediateOperation {
     Addi,
     Slti,
@@ -154,7 +154,7 @@ pub enum ImmediateOperation {
 }
 
 /// A shift by a number of places that the instruction names.
-#[derive(Clone, Copy, PartialEq, Eq, Debug)]
+#[derive(Clone, Copy, PartialEq, Eq)]
 pub enum ShiftOperation {
     Slli,
     Srli,

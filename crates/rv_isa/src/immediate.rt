@@ -5,7 +5,7 @@ ghost use Rattle.std.specs.Prelude.{◌≡◌, ◌<◌, ◌↔◌, IsSome, IfSom
 ghost use Rattle.rv_isa.specs.Range.{IsImmediate, IsBranchOffset, IsJumpOffset, IsUpperImmediate};
 
 /// An immediate of 12 bits, sign-extended: -2048 to 2047.
-#[derive(Clone, Copy, PartialEq, Eq, Debug)]
+#[derive(Clone, Copy, PartialEq, Eq)]
 pub struct Immediate {
     pub word: u32,
     pub ghost in_range: { IsImmediate word },
@@ -36,7 +36,7 @@ impl Immediate {
 }
 
 /// The distance of a conditional branch in bytes: even, -4096 to 4094.
-#[derive(Clone, Copy, PartialEq, Eq, Debug)]
+#[derive(Clone, Copy, PartialEq, Eq)]
 pub struct BranchOffset {
     pub word: u32,
     pub ghost in_range: { IsBranchOffset word },
@@ -65,7 +65,7 @@ impl BranchOffset {
 }
 
 /// The distance of a jump in bytes: even, -1048576 to 1048574.
-#[derive(Clone, Copy, PartialEq, Eq, Debug)]
+#[derive(Clone, Copy, PartialEq, Eq)]
 pub struct JumpOffset {
     pub word: u32,
     pub ghost in_range: { IsJumpOffset word },
@@ -94,7 +94,7 @@ impl JumpOffset {
 }
 
 /// The upper 20 bits of a word, whose lower 12 bits are zero.
-#[derive(Clone, Copy, PartialEq, Eq, Debug)]
+#[derive(Clone, Copy, PartialEq, Eq)]
 pub struct UpperImmediate {
     pub word: u32,
     pub ghost in_range: { IsUpperImmediate word },
@@ -123,7 +123,7 @@ impl UpperImmediate {
 }
 
 /// How far a shift by an immediate moves the bits: 0 to 31 places.
-#[derive(Clone, Copy, PartialEq, Eq, Debug)]
+#[derive(Clone, Copy, PartialEq, Eq)]
 pub struct ShiftAmount {
     pub places: u8,
     pub ghost in_range: { places < 32 },

@@ -5,7 +5,7 @@ ghost use Rattle.std.specs.Prelude.{◌≡◌, ◌<◌, ◌↔◌, IsSome, IfSom
 /// One of the 32 integer registers, `x0` to `x31`. `x0` reads as zero, and a write to it is lost.
 ///
 /// The constants have the names of the RISC-V calling convention.
-#[derive(Clone, Copy, PartialEq, Eq, Debug)]
+#[derive(Clone, Copy, Debug, PartialEq, Eq)]
 pub struct Register {
     pub number: u8,
     pub ghost in_range: { number < 32 },

@@ -20,7 +20,7 @@ pub const AGAIN: u32 = u32::MAX;
 pub const MOST_BEFORE: usize = 3;
 
 /// The head of a loop.
-#[derive(Debug, Drop)]
+#[derive(Drop)]
 pub struct Head {
     /// The number of the function.
     pub function: usize,

@@ -13,7 +13,7 @@ use elf_image::TEXT_START;
 use rv_isa::{Native, Routine, Symbol};
 
 /// Where what the code names stands.
-#[derive(Debug, Drop)]
+#[derive(Drop)]
 pub struct Chart {
     /// How far the jumps of the text lead.
     pub jumps: Reach,
@@ -82,7 +82,7 @@ impl Chart {
 }
 
 /// The addresses of the runtime's symbols. One that the runtime does not have is any number.
-#[derive(Clone, Copy, PartialEq, Eq, Debug)]
+#[derive(Clone, Copy, PartialEq, Eq)]
 pub struct Symbols {
     pub stack_full: u32,
     pub take: u32,

@@ -7,7 +7,7 @@ use rv_isa::{Instr, encode};
 use std::alloc::Global;
 
 /// The words of a text: its instructions, those of the runtime first, and the constant bytes behind them.
-#[derive(Debug, Drop)]
+#[derive(Drop)]
 pub struct Words {
     pub instructions: Vec<Instr>,
     pub constants: Vec<u8>,

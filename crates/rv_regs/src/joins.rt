@@ -328,7 +328,7 @@ pub fn take_state(
 }
 
 /// Where values stand at a label, by the ways to it so far.
-#[derive(Debug, Drop)]
+#[derive(Drop)]
 pub struct KeptState {
     pub label: u32,
     /// The index of the statement from which the first way led there.
@@ -338,7 +338,7 @@ pub struct KeptState {
 
 /// A walk through the code: the lines so far, where values stand behind them, and where they stand at the labels ahead to which a
 /// way has led.
-#[derive(Debug, Drop)]
+#[derive(Drop)]
 pub struct Walk {
     pub items: Vec<Item>,
     pub state: Vec<Listed>,

@@ -12,14 +12,14 @@ use rv_isa::Action;
 use std::alloc::Global;
 
 /// The values that are alive at a point of the code, and the tokens that are held there, the newest first.
-#[derive(Debug, Drop)]
+#[derive(Drop)]
 pub struct Point {
     pub alive: Vec<u32>,
     pub held: Vec<u32>,
 }
 
 /// The values that are alive at a label.
-#[derive(Debug, Drop)]
+#[derive(Drop)]
 pub struct LabelPoint {
     pub label: u32,
     pub alive: Vec<u32>,

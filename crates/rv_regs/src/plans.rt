@@ -18,7 +18,7 @@ const MOST_WORK: usize = 50_000_000;
 const MOST_AHEAD: usize = 16;
 
 /// A register where a value would best be, and how much that is worth.
-#[derive(Clone, Copy, Debug)]
+#[derive(Clone, Copy)]
 pub struct Wish {
     pub value: u32,
     pub register: Register,
@@ -26,28 +26,28 @@ pub struct Wish {
 }
 
 /// The wishes at a label.
-#[derive(Debug, Drop)]
+#[derive(Drop)]
 struct LabelWishes {
     label: u32,
     wishes: Vec<Wish>,
 }
 
 /// A copy of a value: the one that it takes, and the one that it gives.
-#[derive(Clone, Copy, Debug)]
+#[derive(Clone, Copy)]
 pub struct Copied {
     pub from: u32,
     pub into: u32,
 }
 
 /// A value that is to be where it is needed before the statement of this index, since too few moves may stand before a later one.
-#[derive(Clone, Copy, Debug)]
+#[derive(Clone, Copy)]
 pub struct Due {
     pub index: usize,
     pub value: u32,
 }
 
 /// The values that are treated with care, since there were too few moves or registers for them.
-#[derive(Debug, Drop)]
+#[derive(Drop)]
 pub struct Care {
     /// Whether all values go early.
     pub is_for_all: bool,
@@ -59,7 +59,7 @@ pub struct Care {
 }
 
 /// What is needed at a point.
-#[derive(Debug, Drop)]
+#[derive(Drop)]
 pub struct Plan {
     pub point: Point,
     /// The values that have to be in their slots on some way on from here.
@@ -81,7 +81,7 @@ pub struct Plan {
 }
 
 /// What is needed at the points of a function.
-#[derive(Debug, Drop)]
+#[derive(Drop)]
 pub struct Plans {
     /// Before each statement and at the end, the first one last.
     pub points: Vec<Plan>,
@@ -92,7 +92,7 @@ pub struct Plans {
 
 /// A walk through the code from its end back: what is needed at each point so far, the last one first, and what is needed at each
 /// label that it has passed.
-#[derive(Debug, Drop)]
+#[derive(Drop)]
 struct Walk {
     passed: Vec<Plan>,
     at: Plan,

@@ -24,7 +24,7 @@ use std::alloc::Global;
 
 /// A walk through the code of a function, from its end back: the lines so far, the last one first, what is alive and held
 /// where the walk is, and what is alive at the labels that it has passed.
-#[derive(Debug, Drop)]
+#[derive(Drop)]
 pub struct Walk {
     pub items: Vec<Item>,
     pub point: Point,

@@ -6,7 +6,7 @@ use kk_base::NoMemory;
 use std::alloc::Global;
 
 /// What is done at an address.
-#[derive(Clone, Copy, Debug, PartialEq, Eq)]
+#[derive(Clone, Copy, PartialEq, Eq)]
 pub enum Access {
     Fetch,
     Load,
@@ -16,7 +16,7 @@ pub enum Access {
 }
 
 /// A part of the memory, with all its bytes.
-#[derive(Debug, Drop)]
+#[derive(Drop)]
 pub struct Area {
     /// The first address.
     pub start: u32,

@@ -15,7 +15,7 @@ pub enum Halt {
 }
 
 /// Whether a machine goes on.
-#[derive(Clone, Copy, Debug, PartialEq, Eq)]
+#[derive(Clone, Copy, PartialEq, Eq)]
 pub(crate) enum Phase {
     Going,
     Exited(u8),
@@ -23,7 +23,7 @@ pub(crate) enum Phase {
 }
 
 /// What became of an instruction.
-#[derive(Clone, Copy, Debug, PartialEq, Eq)]
+#[derive(Clone, Copy, PartialEq, Eq)]
 pub(crate) enum Turn {
     /// It was executed, or it trapped.
     Over,
@@ -32,7 +32,7 @@ pub(crate) enum Turn {
 }
 
 /// A device that failed.
-#[derive(Clone, Copy, Debug, PartialEq, Eq)]
+#[derive(Clone, Copy, PartialEq, Eq)]
 pub(crate) enum Device {
     Input,
     Output,

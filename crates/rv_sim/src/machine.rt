@@ -33,7 +33,7 @@ use std::alloc::Global;
 use std::marker::Model;
 
 /// A machine that executes an image.
-#[derive(Debug, Drop)]
+#[derive(Drop)]
 pub struct Machine {
     registers: Registers,
     pc: u32,

@@ -14,7 +14,7 @@ use std::alloc::Global;
 use std::marker::Model;
 
 /// The memory of a machine, by areas that share no address.
-#[derive(Debug, Drop)]
+#[derive(Drop)]
 pub struct Memory {
     areas: Vec<Area>,
     /// The place of the area that the last instruction came from.

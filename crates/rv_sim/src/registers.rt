@@ -6,7 +6,7 @@ use rv_isa::Register;
 use std::marker::Model;
 
 /// The integer registers, x0 to x31, by their number. x0 is zero.
-#[derive(Debug, Drop)]
+#[derive(Drop)]
 pub struct Registers {
     words: [u32; 32],
 }
