@@ -197,7 +197,9 @@ copies_begin base (x ∷ xs) last no_copy some =
 -- a print of constant bytes
 print_begins : (base : ℕ) (texts : List (List ℕ)) (bytes : List ℕ) (print : List Line) (last : Line)
     → PrintLines base texts bytes print → Begins (print ++ (last ∷ []))
-print_begins base texts bytes print last is =
+print_begins base texts [] print last is =
+    begins_by (print ++ (last ∷ [])) _ (ap (λ ls. ls ++ (last ∷ [])) is) (begins_behind _ _ refl (begins_at _ _ refl refl))
+print_begins base texts (byte ∷ more) print last is =
     begins_by (print ++ (last ∷ [])) _ (ap (λ ls. ls ++ (last ∷ [])) is.2)
     (begins_behind _ _ refl (begins_behind _ _ refl (begins_at _ _ refl refl)))
 

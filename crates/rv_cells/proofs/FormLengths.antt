@@ -336,7 +336,8 @@ tail_length base f arguments =
 
 print_length : (base : ℕ) (texts : List (List ℕ)) (bytes : List ℕ) (lines : List Line) → PrintLines base texts bytes lines
     → code_length lines ≤ 10
-print_length base texts bytes lines is = let whole = ap code_length is.2 in omega (arith, whole)
+print_length base texts [] lines is = let whole = ap code_length is in omega (arith, whole)
+print_length base texts (byte ∷ more) lines is = let whole = ap code_length is.2 in omega (arith, whole)
 
 -- a form is so many instructions as it has words, but for those of its string
 module _ (setting : Setting) where

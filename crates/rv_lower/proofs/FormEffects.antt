@@ -389,11 +389,49 @@ module _ (target : Target) where
       (put_other (base + 1) base count c1 (λ e. omega (arith, e)) ∙ put_same base at cells) (put_same (base + 1) count c1)
       (λ held. ap (λ bytes. print_bytes bytes world) there.2) (λ held. omega arith)
 
+  -- of no bytes: the null token is freed
+  frees_null : (base : ℕ) (whole : Function) (rest : List Line) (cells : ℕ → Option ℕ) (into : Option ℕ) (fs : List (Frame Line)) (world : World) → cells base ≡ Some 0
+      → Run word_cost 1 [] (turn_at whole (acts (Action.Compute Op.Free) (base ∷ []) ∷ rest) cells into fs world) (turn_at whole rest cells into fs world)
+  frees_null base whole rest cells into fs world null =
+      Runs.line_runs target word_cost whole (acts (Action.Compute Op.Free) (base ∷ [])) rest cells into fs world (0 ∷ []) [] (turn_at whole rest cells into fs world)
+      (reads_one cells base 0 null) refl (λ held. omega arith) (Runs.silent target world)
+
+  nothing_performs : (base x : ℕ) (cells : ℕ → Option ℕ) (world : World) → x < base
+      → Performs (sets 0 base ∷ acts (Action.Compute Op.Free) (base ∷ []) ∷ sets unit_word x ∷ []) base x unit_type unit cells world world []
+  nothing_performs base x cells world above =
+      let with_null : ℕ → Option ℕ = put base (Some 0) cells in
+      record {
+        steps = 3;
+        cost = word_cost + (word_cost + word_cost);
+        cheap = omega arith;
+        cells' = put x (Some unit_word) with_null;
+        word = unit_word;
+        kept = λ z low other. put_other x z unit_word with_null other ∙ put_other base z 0 cells (λ e. omega (arith, low, e));
+        there = put_same x unit_word with_null;
+        is = (refl, refl);
+        runs = λ whole rest into fs.
+            let last : List Line = sets unit_word x ∷ rest in
+            let free : List Line = acts (Action.Compute Op.Free) (base ∷ []) ∷ last in
+            let t1 : AsmTurn World Ending = turn_at whole (sets 0 base ∷ free) cells into fs world in
+            let t2 : AsmTurn World Ending = turn_at whole free with_null into fs world in
+            let t3 : AsmTurn World Ending = turn_at whole last with_null into fs world in
+            let t4 : AsmTurn World Ending = turn_at whole rest (put x (Some unit_word) with_null) into fs world in
+            Runs.runs_on target word_cost (word_cost + word_cost) 2 [] [] t1 t2 t4
+            (Runs.compute_runs target whole (Op.Li 0) [] base free cells into fs world [] 0 (omega arith) refl refl)
+            (Runs.runs_on target word_cost word_cost 1 [] [] t2 t3 t4 (frees_null base whole last with_null into fs world (put_same base 0 cells))
+            (Runs.compute_runs target whole (Op.Li unit_word) [] x rest with_null into fs world [] unit_word (omega arith) refl refl));
+      }
+
   pub print_text_performs : (base x : ℕ) (text : List ℕ) (print own : List Line) (cells : ℕ → Option ℕ) (world : World) → x < base → PrintLines base target.constants.texts text print → own ≡ print ++ sets unit_word x ∷ []
       → Performs own base x unit_type unit cells world (told_more (put_of text) world) (put_of text)
-  print_text_performs base x text print own cells world above lines own_is =
-      subst (λ some. Performs some base x unit_type unit cells world (told_more (put_of text) world) (put_of text)) (sym (own_is ∙ ap (λ some. some ++ sets unit_word x ∷ []) lines.2))
-      (text_performs base x text lines.0 cells world above lines.1)
+  print_text_performs base x [] print own cells world above lines own_is =
+      let told_none : world ≡ told_more [] world = ap (λ (events : List Event). record world { trace = events }) (sym (append-nil world.trace)) in
+      subst (λ some. Performs some base x unit_type unit cells world (told_more [] world) []) (sym (own_is ∙ ap (λ some. some ++ sets unit_word x ∷ []) lines))
+      (subst (λ (after : World). Performs (sets 0 base ∷ acts (Action.Compute Op.Free) (base ∷ []) ∷ sets unit_word x ∷ []) base x unit_type unit cells world after []) told_none
+      (nothing_performs base x cells world above))
+  print_text_performs base x (byte ∷ more) print own cells world above lines own_is =
+      subst (λ some. Performs some base x unit_type unit cells world (told_more (put_of (byte ∷ more)) world) (put_of (byte ∷ more))) (sym (own_is ∙ ap (λ some. some ++ sets unit_word x ∷ []) lines.2))
+      (text_performs base x (byte ∷ more) lines.0 cells world above lines.1)
 
   -- ---- reading
 

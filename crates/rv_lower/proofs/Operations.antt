@@ -235,6 +235,13 @@ module _ (base : ℕ) (bound : List ℕ) (has : HasRoom base bound) (x : ℕ) (l
       (hands base bound has (base ∷ base ∷ []) (OfAction.Routine routine) None (λ l. refl) (λ rest. tt) tt (omega (arith, two)) (omega arith) (λ is. absurd (false≢true is)) (Before base)
       (λ v is. absurd (none_some is)) (λ rest v good other is. only_bound base bound has v (good.alive v is)))))
 
+  -- the null token is freed, from a temporary
+  frees_null : Leads (Before base) (Before base) 2 (sets 0 base ∷ acts (OfAction.Compute Op.Free) (base ∷ []) ∷ [])
+  frees_null =
+      leads_then (Before base) (Before (base + 1)) (Before base) 1 1 (sets 0 base ∷ []) _ (next_temporary base bound has base (Op.Li 0) [] (omega arith) refl (omega arith) tt)
+      (hands base bound has (base ∷ []) (OfAction.Compute Op.Free) None (λ l. refl) (λ rest. tt) tt (omega arith) (omega arith) (λ is. absurd (false≢true is)) (Before base)
+      (λ v is. absurd (none_some is)) (λ rest v good other is. only_bound base bound has v (good.alive v is)))
+
   sets_only : (word : ℕ) → Leads (Before base) (Behind base) 1 (sets word x ∷ [])
   sets_only word = writes base (Op.Li word) [] (omega arith) refl (omega arith) tt
 
@@ -260,8 +267,10 @@ module _ (base : ℕ) (bound : List ℕ) (has : HasRoom base bound) (x : ℕ) (l
 
   module _ (texts : Texts) where
     prints : (bytes : List ℕ) (lines : List Line) → PrintLines base texts.constants bytes lines → Leads (Before base) (Before base) 3 lines
-    prints bytes lines is =
-        subst (Leads (Before base) (Before base) 3) (sym is.2) (serves_two Routine.PrintText (Op.La is.0) (Op.Li (length bytes)) [] refl refl refl (omega arith) tt)
+    prints [] lines is =
+        subst (Leads (Before base) (Before base) 3) (sym is) (leads_weaker (Before base) (Before base) (Before base) (Before base) 2 3 _ (λ v is. is) (λ v is. is) (omega arith) frees_null)
+    prints (byte ∷ more) lines is =
+        subst (Leads (Before base) (Before base) 3) (sym is.2) (serves_two Routine.PrintText (Op.La is.0) (Op.Li (length (byte ∷ more))) [] refl refl refl (omega arith) tt)
 
     -- a form on as many variables as it takes
     pub form_serves : (of : Form) (arguments : List ℕ) (lines : List Line) → HasArguments of arguments → AllBound bound arguments

@@ -113,7 +113,8 @@ module _ (most : ℕ) where
 
     print_below : (texts : List (List ℕ)) (bytes : List ℕ) (lines : List Line) → PrintLines base texts bytes lines
         → AreLinesBelow most lines
-    print_below texts bytes lines is =
+    print_below texts [] lines is = subst (AreLinesBelow most) (sym is) ((tt, zero_less), (((zero_less, tt), tt), tt))
+    print_below texts (byte ∷ more) lines is =
         subst (AreLinesBelow most) (sym is.2)
         ((tt, zero_less), ((tt, one_less), (((zero_less, (one_less, tt)), tt), tt)))
 

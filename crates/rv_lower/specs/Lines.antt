@@ -98,11 +98,14 @@ abbrev pub choice_of : PrintForm → ℕ
 choice_of OfPrint.Print = 0
 choice_of OfPrint.PrintLine = 1
 
--- a print of constant bytes, which stand among the texts
+-- A print of constant bytes, which stand among the texts. One of no bytes has to be an instruction of its own too: it frees the null
+-- token, which changes nothing.
 abbrev pub PrintLines : ℕ → List (List ℕ) → List ℕ → List Line → Type 0
-PrintLines base texts bytes lines =
-    (index : ℕ) × (slice_get texts index ≡ Some bytes)
-    × (lines ≡ computes (Op.La index) [] base ∷ sets (length bytes) (base + 1) ∷ acts (Action.Routine Routine.PrintText) (base ∷ (base + 1) ∷ []) ∷ [])
+PrintLines base texts [] lines = lines ≡ sets 0 base ∷ acts (Action.Compute Op.Free) (base ∷ []) ∷ []
+PrintLines base texts (byte ∷ more) lines =
+    (index : ℕ) × (slice_get texts index ≡ Some (byte ∷ more))
+    × (lines ≡ computes (Op.La index) [] base ∷ sets (length (byte ∷ more)) (base + 1)
+        ∷ acts (Action.Routine Routine.PrintText) (base ∷ (base + 1) ∷ []) ∷ [])
 
 -- A form with arguments, on variables. One with another number of arguments is none, and so is a construction with fields.
 abbrev pub AppliedLines : ℕ → ℕ → Form → List ℕ → List Line → Type 0

@@ -11,7 +11,7 @@ use kk_base::NoMemory;
 use rv_isa::Action;
 
 /// Where the value of a code goes.
-#[derive(Clone, Copy, Debug)]
+#[derive(Clone, Copy)]
 pub enum Goal {
     /// To the caller.
     Return,

@@ -119,7 +119,7 @@ pub fn next(number: u32) -> Result<u32, NoMemory>
 }
 
 /// The values that a line reads.
-#[derive(Clone, Copy, Debug)]
+#[derive(Clone, Copy)]
 pub enum Reads {
     Nothing,
     One(u32),
@@ -127,7 +127,7 @@ pub enum Reads {
 }
 
 /// A line that reads at most two values.
-#[derive(Clone, Copy, Debug)]
+#[derive(Clone, Copy)]
 pub struct Short {
     pub action: Action,
     pub reads: Reads,

@@ -330,12 +330,26 @@ impl Lowering {
         self.push(Action::Call(function), &handed, Some(into))
     }
 
+    /// A print of no bytes. It frees the null token, which changes nothing, so that each print is an instruction at least.
+    fn print_nothing(&mut self) -> Result<(), NoMemory>
+        ensures { OnOk result (WrotePrint [] self.old self.new) }
+    {
+        let token = self.base;
+        self.write(&[
+            set(0, token),
+            act(Action::Compute(Operation::Free), Reads::One(token)),
+        ])
+    }
+
     /// A print of constant bytes.
     fn print_text(&mut self, form: PrintForm, text: &[u8]) -> Result<(), NoMemory>
         requires { length text.now ≤ greatest_string }
         ensures { OnOk result (WrotePrint (piece_of form text.now) self.old self.new) }
     {
         let bytes = piece(self.alloc, form, text)?;
+        if bytes.is_empty() {
+            return self.print_nothing();
+        }
         let (address, count) = (self.base, self.temporary(1)?);
         let length = bytes.len() as u32;
         let index = self.add_text(bytes)?;
