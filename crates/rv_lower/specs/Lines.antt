@@ -105,7 +105,7 @@ PrintLines base texts [] lines = lines ≡ sets 0 base ∷ acts (Action.Compute 
 PrintLines base texts (byte ∷ more) lines =
     (index : ℕ) × (slice_get texts index ≡ Some (byte ∷ more))
     × (lines ≡ computes (Op.La index) [] base ∷ sets (length (byte ∷ more)) (base + 1)
-        ∷ acts (Action.Routine Routine.PrintText) (base ∷ (base + 1) ∷ []) ∷ [])
+    ∷ acts (Action.Routine Routine.PrintText) (base ∷ (base + 1) ∷ []) ∷ [])
 
 -- A form with arguments, on variables. One with another number of arguments is none, and so is a construction with fields.
 abbrev pub AppliedLines : ℕ → ℕ → Form → List ℕ → List Line → Type 0
