@@ -151,7 +151,7 @@ fn values(rt: HostRuntime) {
     ];
     for (instr, a, b, value) in rows {
         let found = effect(instr, 0x1_0000, a, b);
-        assert_eq!(rt; found.next, 0x1_0004);
+        assert_eq!(rt; found.next, 0x1_0004, "of {a:08x} and {b:08x}");
         assert_eq!(rt; found.act, Act::Set(value), "of {a:08x} and {b:08x}");
     }
 }

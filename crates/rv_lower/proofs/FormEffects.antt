@@ -389,7 +389,7 @@ module _ (target : Target) where
       (put_other (base + 1) base count c1 (λ e. omega (arith, e)) ∙ put_same base at cells) (put_same (base + 1) count c1)
       (λ held. ap (λ bytes. print_bytes bytes world) there.2) (λ held. omega arith)
 
-  -- of no bytes: the null token is freed
+  -- a print of no bytes frees the null token
   frees_null : (base : ℕ) (whole : Function) (rest : List Line) (cells : ℕ → Option ℕ) (into : Option ℕ) (fs : List (Frame Line)) (world : World) → cells base ≡ Some 0
       → Run word_cost 1 [] (turn_at whole (acts (Action.Compute Op.Free) (base ∷ []) ∷ rest) cells into fs world) (turn_at whole rest cells into fs world)
   frees_null base whole rest cells into fs world null =

@@ -98,8 +98,8 @@ abbrev pub choice_of : PrintForm → ℕ
 choice_of OfPrint.Print = 0
 choice_of OfPrint.PrintLine = 1
 
--- A print of constant bytes, which stand among the texts. One of no bytes has to be an instruction of its own too: it frees the null
--- token, which changes nothing.
+-- A print of constant bytes, which stand among the texts. One of no bytes frees the null token, which changes nothing: so it has an own
+-- line too, as each print.
 abbrev pub PrintLines : ℕ → List (List ℕ) → List ℕ → List Line → Type 0
 PrintLines base texts [] lines = lines ≡ sets 0 base ∷ acts (Action.Compute Op.Free) (base ∷ []) ∷ []
 PrintLines base texts (byte ∷ more) lines =

@@ -60,7 +60,7 @@ pub record Grows (n : ℕ) (lines : List Line) (old new : Lowering) : Type 0 whe
   pub texts : texts_written new ≡ texts_written old ++ more
   pub few : length (all_bytes more) ≤ most_print * n
 
--- how many texts a form on variables adds: the string that it prints
+-- the most texts that a form on variables adds: the string that it prints
 abbrev pub texts_in : Form → ℕ
 texts_in (PrintText how text) = 1
 texts_in form = 0
@@ -78,7 +78,7 @@ pub record WroteLines (Kind : List Line → Type 0) (old new : Lowering) : Type 
   pub wrote : Wrote lines old new
   pub are : Kind lines
 
--- the lines of a print were written, and its bytes
+-- the lines of a print were written, and its bytes, if it has any
 pub record WrotePrint (bytes : List ℕ) (old new : Lowering) : Type 0 where
   pub lines : List Line
   pub grows : Grows 1 lines old new

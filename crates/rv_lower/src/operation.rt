@@ -6,10 +6,11 @@ ghost use Rattle.kk_syntax.specs.declared.program.Form.TheVariants.{Unary, Binar
 ghost use Rattle.kk_syntax.specs.declared.operator.BinaryOperator.TheVariants.{Divide, Equal, NotEqual};
 ghost use Rattle.kk_syntax.specs.Programs.{text_at};
 ghost use Rattle.kk_source.specs.FormEffects.{piece_of};
-ghost use Rattle.rv_isa.specs.declared.asm.Operation.TheVariants.{Register};
+ghost use Rattle.rv_isa.specs.declared.asm.Action.TheVariants.{Compute};
+ghost use Rattle.rv_isa.specs.declared.asm.Operation.TheVariants.{Register, Free};
 ghost use Rattle.rv_isa.specs.declared.asm.RegisterOperation.TheVariants.{Slt};
 ghost use Rattle.rv_isa.specs.Frames.{only_of};
-ghost use Rattle.rv_lower.specs.Lines.{choice_of, constant_word, registers, Compares, ComparesWithOne, ComparesNot, BinaryLines, AppliedLines};
+ghost use Rattle.rv_lower.specs.Lines.{choice_of, constant_word, registers, sets, acts, Compares, ComparesWithOne, ComparesNot, BinaryLines, AppliedLines};
 ghost use Rattle.rv_lower.specs.Written.{most_print, pair_of, short_line, Wrote, WroteLines, WrotePrint, WroteForm};
 
 use crate::lowering::{Lowering, Reads, Short, act, binary, constant, copy, set, unary};
@@ -330,9 +331,9 @@ impl Lowering {
         self.push(Action::Call(function), &handed, Some(into))
     }
 
-    /// A print of no bytes. It frees the null token, which changes nothing, so that each print is an instruction at least.
+    /// A print of no bytes. It frees the null token, which changes nothing, so that each print has an instruction of its own.
     fn print_nothing(&mut self) -> Result<(), NoMemory>
-        ensures { OnOk result (WrotePrint [] self.old self.new) }
+        ensures { OnOk result (Wrote (sets 0 self.old.base ∷ acts (Compute Free) (self.old.base ∷ []) ∷ []) self.old self.new) }
     {
         let token = self.base;
         self.write(&[
