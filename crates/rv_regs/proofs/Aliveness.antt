@@ -8,7 +8,7 @@ use Rattle.rv_isa.specs.AsmMachine.{is_label}
 use Rattle.rv_isa.specs.Frames.{is_among}
 use Rattle.rv_isa.specs.ValueBounds.{AreLinesBelow}
 use Rattle.rv_isa.specs.WellFormed.{is_written, is_alive_after, is_alive, is_alive_at, is_alive_behind, AreDistinct}
-use Rattle.rv_regs.specs.Alive.{without, values_before, values_behind, alive_values, alive_values_at}
+use Rattle.rv_propose.specs.Alive.{without, values_before, values_behind, alive_values, alive_values_at}
 use Rattle.rv_regs.proofs.Lists.{each_among, among_with_values, among_without, distinct_with, distinct_without}
 
 behind_exact : (v : ℕ) (action : Action) (next : List ℕ) (at_label : ℕ → List ℕ) (is_next : Bool) (is_at : ℕ → Bool)

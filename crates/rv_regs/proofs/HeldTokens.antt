@@ -15,7 +15,7 @@ use Rattle.rv_isa.specs.AsmCode.{Line}
 use Rattle.rv_isa.specs.Frames.{is_among}
 use Rattle.rv_isa.specs.WellFormed.{is_written, is_alive, is_alive_behind, goes_straight_on, may_give, has_value, first_of, ChangesHeld, LeavesHeld, AreTokensHeld}
 use Rattle.rv_regs.specs.declared.slots.Loaded.{Loaded}
-use Rattle.rv_regs.specs.Alive.{held_before, held_values}
+use Rattle.rv_propose.specs.Alive.{held_before, held_values}
 use Rattle.rv_regs.specs.Listings.{is_read_in, is_first_read, marks}
 use Rattle.rv_regs.specs.Plain.{place_in, copy_in, listing_at, operand_at, first_register, register_args, loaded_for, operands_for}
 use Rattle.rv_regs.proofs.RegisterPlaces.{all_weaker, place_slot, copy_none, load_values}

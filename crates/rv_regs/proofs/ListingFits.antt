@@ -15,7 +15,7 @@ use Rattle.rv_isa.specs.PlacedMachine.{is_label_line}
 use Rattle.rv_isa.specs.Frames.{is_among, found}
 use Rattle.rv_isa.specs.WellFormed.{AreDistinct}
 use Rattle.rv_regs.specs.declared.slots.Loaded.{Loaded}
-use Rattle.rv_regs.specs.Alive.{PointLists}
+use Rattle.rv_propose.specs.Alive.{PointLists}
 use Rattle.rv_regs.specs.Listings.{first_alive, listed_as, with_copy, spoils_by, marks}
 use Rattle.rv_regs.specs.Conditions.{OnCopy, AtBoth, StandsAt, AreApart, Apart, IsAtPlace, IsNeeded, IsListed, IsClearOf, IsSafe, IsAtCopy, IsKept, IsHandedOut, WriteIsHandedOut, IsInSlot, StaysHeld, Fits, AllFit}
 use Rattle.rv_regs.specs.Plain.{place_in, copy_in, listing_at, listings, stored_later, copied_in, loads, stores}

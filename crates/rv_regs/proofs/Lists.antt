@@ -6,7 +6,7 @@ use Rattle.std.proofs.lemmas.List.Elements.{All-nil, All-cons}
 use Rattle.std.proofs.lemmas.List.Folds.{list_any-append}
 use Rattle.rv_isa.specs.Frames.{is_among}
 use Rattle.rv_isa.specs.WellFormed.{is_written, AreDistinct}
-use Rattle.rv_regs.specs.Alive.{with_value, with_values, without}
+use Rattle.rv_propose.specs.Alive.{with_value, with_values, without}
 
 -- what holds of each value among some holds of what is made of each
 pub all_made : {A : Type 0} (P : A → Type 0) (f : ℕ → A) (values : List ℕ) → ((v : ℕ) → is_among v values ≡ true → P (f v)) → All P (map f values)

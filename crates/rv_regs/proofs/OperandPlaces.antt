@@ -19,7 +19,7 @@ use Rattle.rv_isa.specs.Conventions.{is_handed_out, is_lost, is_idle, is_registe
 use Rattle.rv_isa.specs.Frames.{is_among, found}
 use Rattle.rv_isa.specs.WellFormed.{is_written, is_alive, is_alive_at, is_alive_behind, most_args, has_value, may_give, hands_over, goes_straight_on, AreDistinct, IsLineFormed}
 use Rattle.rv_regs.specs.declared.slots.Loaded.{Loaded}
-use Rattle.rv_regs.specs.Alive.{values_before, values_behind, alive_values, alive_values_at, held_values, PointLists, lists_before}
+use Rattle.rv_propose.specs.Alive.{values_before, values_behind, alive_values, alive_values_at, held_values, PointLists, lists_before}
 use Rattle.rv_regs.specs.Listings.{first_alive, listed_as, both_of, marks, with_copy}
 use Rattle.rv_regs.specs.Conditions.{IsAtPlace, IsNeeded, IsListed, IsListedIn, IsWritten, written_by, IsNew, IsClearOf, IsKept, StaysHeld, WriteIsHandedOut, Fits, LineFits}
 use Rattle.rv_regs.specs.Plain.{numbered, place_in, copy_in, listing_at, stored_later, copied_in, operand_at, first_register, result_register, load_from, register_args, loaded_for, operands_for, pending}

@@ -19,7 +19,7 @@ use Rattle.rv_isa.specs.PlacedCode.{PlacedLine, moves}
 use Rattle.rv_isa.specs.PlacedMachine.{is_label_line}
 use Rattle.rv_isa.specs.WellFormed.{AreLabelsAhead, AreDistinct, IsLineFormed, AreLinesFormed, IsWellFormed}
 use Rattle.rv_regs.specs.declared.slots.Loaded.{Loaded}
-use Rattle.rv_regs.specs.Alive.{values_before, alive_values, alive_values_at, held_values, PointLists, lists_before}
+use Rattle.rv_propose.specs.Alive.{values_before, alive_values, alive_values_at, held_values, PointLists, lists_before}
 use Rattle.rv_regs.specs.Listings.{first_alive}
 use Rattle.rv_regs.specs.Conditions.{value_of, without_moves, IsPassed, AllFit, IsPlacing}
 use Rattle.rv_regs.specs.Plain.{numbered, place_in, copy_in, listing_at, stored_later, copied_in, operand_at, load_from, loaded_for, operands_for, pending, alive_params, loads, stores, line_and_stores, placed_row, placed_code, placed_function}

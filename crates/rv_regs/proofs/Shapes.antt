@@ -22,7 +22,7 @@ use Rattle.rv_isa.specs.ValueBounds.{AreLinesBelow}
 use Rattle.rv_isa.specs.WellFormed.{AreLinesFormed, IsWellFormed, most_args}
 use Rattle.rv_isa.specs.Costs.{argument_moves, result_moves, move_instructions, code_length, placed_code_length}
 use Rattle.rv_regs.specs.declared.slots.Loaded.{Loaded}
-use Rattle.rv_regs.specs.Alive.{alive_values, PointLists, lists_before}
+use Rattle.rv_propose.specs.Alive.{alive_values, PointLists, lists_before}
 use Rattle.rv_regs.specs.Plain.{numbered, place_in, copy_in, listing_at, listings, copied_in, operand_at, first_register, result_register, load_from, register_args, loaded_for, operands_for, pending, alive_params, loads, stores, line_and_stores, placed_code, placed_function}
 use Rattle.rv_regs.specs.Relation.{leading, argument_loads, first_args, stores_behind, FewMoves}
 use Rattle.rv_regs.specs.Shape.{IsBelow, IsResultBelow, HasSlotsBelow, AllSlotsBelow, IsModest}

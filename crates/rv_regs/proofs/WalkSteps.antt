@@ -18,15 +18,15 @@ use Rattle.rv_isa.specs.PlacedCode.{PlacedLine, moves, placed_line_of}
 use Rattle.rv_isa.specs.Conventions.{argument}
 use Rattle.rv_isa.specs.Frames.{is_among}
 use Rattle.rv_isa.specs.WellFormed.{AreLinesFormed}
-use Rattle.rv_regs.specs.declared.liveness.LabelPoint.{LabelPoint}
+use Rattle.rv_propose.specs.declared.liveness.LabelPoint.{LabelPoint}
 use Rattle.rv_regs.specs.declared.walk.Walk.{Walk}
 use Rattle.rv_regs.specs.declared.slots.Loaded.{Loaded}
-use Rattle.rv_regs.specs.Alive.{with_values, values_behind, PointLists, lists_before}
+use Rattle.rv_propose.specs.Alive.{with_values, values_behind, PointLists, lists_before}
 use Rattle.rv_regs.specs.Backwards.{backwards}
 use Rattle.rv_regs.specs.Plain.{stored_later, copied_in, load_from, alive_params, loads, stores, placed_code, placed_start_of}
 use Rattle.rv_regs.specs.Views.{lists_of}
 use Rattle.rv_regs.specs.Walks.{HasComeTo}
-use Rattle.rv_regs.specs.Tables.{last_at}
+use Rattle.rv_propose.specs.Tables.{last_at}
 use Rattle.rv_regs.proofs.Shapes.{few_args}
 
 -- what is written last comes first
@@ -35,14 +35,6 @@ unfolding backwards
 backwards_put items item = ap reverse (map-append placed_line_of items (item ∷ [])) ∙ reverse-append (map placed_line_of items) (placed_line_of item ∷ [])
 
 -- the last point of a label counts
-pub last_at_put : (l : ℕ) (found : List ℕ) (points : List LabelPoint) (p : LabelPoint) → last_at l found (points ++ p ∷ []) ≡ cond (p.label == l) p.alive.items (last_at l found points)
-last_at_put l found [] p = refl
-last_at_put l found (q ∷ points) p = last_at_put l (cond (q.label == l) q.alive.items found) points p
-
-pub no_label : (l : ℕ) (action : Action) → ((m : ℕ) → action ≡ Label m → ⊥) → is_label l action ≡ false
-no_label l (Label m) none = absurd (none m refl)
-no_label l action none = refl
-
 -- what is alive behind an action rests on the labels alone that it names
 pub behind_same : (action : Action) (next next' : List ℕ) (at_label at_label' : ℕ → List ℕ) → next ≡ next' → ((l : ℕ) → at_label l ≡ at_label' l) → values_behind action next at_label ≡ values_behind action next' at_label'
 behind_same (Jump l) next next' at_label at_label' same sames = sames l

@@ -4,10 +4,8 @@ pub mod Valid
 pub mod Views
 pub mod Heavier
 pub mod Relation
-pub mod Alive
 pub mod Plain
 pub mod Shape
-pub mod Tables
 pub mod Backwards
 pub mod Walks
 pub mod StatementLines

@@ -19,7 +19,7 @@ use Rattle.rv_isa.specs.Conventions.{argument}
 use Rattle.rv_isa.specs.Frames.{is_among}
 use Rattle.rv_isa.specs.PlacedCode.{PlacedLine, does, moves, PlacedLines}
 use Rattle.rv_regs.specs.declared.slots.Loaded.{Loaded}
-use Rattle.rv_regs.specs.Alive.{PointLists, lists_before}
+use Rattle.rv_propose.specs.Alive.{PointLists, lists_before}
 
 -- ---- places
 

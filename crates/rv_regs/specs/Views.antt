@@ -5,8 +5,8 @@ use Rattle.rv_isa.specs.declared.asm.Action.{Action}
 use Rattle.rv_isa.specs.declared.placed.Operand.{Operand}
 use Rattle.rv_isa.specs.declared.placed.Listed.{Listed}
 use Rattle.rv_isa.specs.AsmCode.{Line}
-use Rattle.rv_regs.specs.declared.liveness.Point.{Point}
-use Rattle.rv_regs.specs.Alive.{PointLists}
+use Rattle.rv_propose.specs.declared.liveness.Point.{Point}
+use Rattle.rv_propose.specs.Alive.{PointLists}
 use Rattle.rv_regs.specs.Conditions.{value_of}
 
 -- the listings of a point, if it is there

@@ -2,9 +2,9 @@
 use Rattle.std.specs.Prelude.{◌≡◌, ℕ, List, []}
 use Rattle.rv_isa.specs.AsmCode.{Line}
 use Rattle.rv_regs.specs.declared.walk.Walk.{Walk}
-use Rattle.rv_regs.specs.Alive.{alive_values_at, lists_before}
+use Rattle.rv_propose.specs.Alive.{alive_values_at, lists_before}
 use Rattle.rv_regs.specs.Plain.{placed_code}
-use Rattle.rv_regs.specs.Tables.{last_at}
+use Rattle.rv_propose.specs.Tables.{last_at}
 use Rattle.rv_regs.specs.Backwards.{backwards}
 use Rattle.rv_regs.specs.Views.{lists_of}
 

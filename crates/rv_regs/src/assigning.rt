@@ -9,13 +9,11 @@ ghost use Rattle.rv_regs.specs.Shape.{IsRight, AreRight, IsPlainlyPlaced};
 ghost use Rattle.rv_regs.specs.Valid.{IsValid};
 
 use crate::checking::is_placing;
-use crate::liveness::copy_of;
-use crate::local::local_function;
 use crate::modest::is_modest;
-use crate::numbering::with_tokens_first;
 use crate::walk::placed_lines;
 use kk_base::{NoMemory, Text};
 use rv_isa::{Asm, AsmFunction, Placed, PlacedFunction};
+use rv_propose::{copy_of, local_function, with_tokens_first};
 use std::alloc::Global;
 
 fn plain_function(alloc: Global, function: &AsmFunction) -> Result<PlacedFunction, NoMemory>

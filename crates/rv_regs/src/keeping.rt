@@ -19,11 +19,7 @@ use rv_isa::{Action, Listed, Operand, Place, Register};
 pub fn may_spoil(action: Option<Action>, register: u8) -> bool
     ensures { result ≡ spoils_by action register }
 {
-    match action {
-        Some(Action::Call(_)) => true,
-        Some(Action::Routine(routine)) => routine.spoils(register),
-        _ => false,
-    }
+    action.is_some_and(|action| rv_propose::may_spoil(action, register))
 }
 
 fn is_first_read(reads: &[Operand], value: u32) -> bool

@@ -5,18 +5,12 @@
 mod assigning;
 mod checking;
 mod conventions;
-mod joins;
 mod keeping;
 mod keeps;
-mod liveness;
-mod local;
 mod modest;
-mod numbering;
 mod places;
-mod plans;
 mod reached;
 mod slots;
-mod state;
 mod walk;
 
 pub use assigning::assign;

@@ -11,9 +11,9 @@ ghost use Rattle.rv_regs.specs.declared.slots.Loaded.{Loaded};
 ghost use Rattle.rv_regs.specs.Plain.{numbered, place_in, copy_in, listings, operand_at, first_register, result_register, load_from, register_args, loaded_for, operands_for, pending, stored_later, copied_in};
 ghost use Rattle.rv_regs.specs.Views.{lists_of};
 
-use crate::liveness::{Point, is_one_of};
 use kk_base::NoMemory;
 use rv_isa::{Action, Listed, Operand, Place, Register, Routine};
+use rv_propose::{Point, is_one_of};
 use std::alloc::Global;
 
 /// A value that is in a register for a while.

@@ -8,18 +8,18 @@ ghost use Rattle.rv_isa.specs.AsmCode.{Line, line_of};
 ghost use Rattle.rv_isa.specs.PlacedCode.{placed_line_of};
 ghost use Rattle.rv_isa.specs.declared.placed.Place.TheVariants.{Register as register};
 ghost use Rattle.rv_regs.specs.Plain.{numbered, operand_at, result_register, loads, stores, placed_row, placed_code, placed_start_of};
-ghost use Rattle.rv_regs.specs.Alive.{lists_before};
+ghost use Rattle.rv_propose.specs.Alive.{lists_before};
 ghost use Rattle.rv_regs.specs.Backwards.{backwards};
 ghost use Rattle.rv_regs.specs.Views.{lists_of};
 ghost use Rattle.rv_regs.specs.Walks.{HasComeTo};
 
-use crate::liveness::{LabelPoint, Point, alive_before, alive_behind, held_before, with_point};
 use crate::slots::{
     Loaded, copied_in, left_behind, loaded_for, loaded_from, operands_for, register_of_result,
     stored_later, those_alive,
 };
 use kk_base::NoMemory;
 use rv_isa::{Item, Operand, Place, Register, Statement, Way};
+use rv_propose::{LabelPoint, Point, alive_before, alive_behind, held_before, with_point};
 use std::alloc::Global;
 
 /// A walk through the code of a function, from its end back: the lines so far, the last one first, what is alive and held

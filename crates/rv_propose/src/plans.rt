@@ -1,6 +1,8 @@
 // What the code of a function needs at each of its points, for one who gives its values registers.
 
-use crate::keeping::may_spoil;
+ghost use Rattle.std.specs.Prelude.{◌≡◌};
+ghost use Rattle.rv_isa.specs.Conventions.{spoils};
+
 use crate::liveness::{
     LabelPoint, Point, alive_at, alive_before, alive_behind, copy_of, held_before, is_one_of,
     is_result,
@@ -136,6 +138,17 @@ pub fn goes_on(action: Action) -> bool {
         action,
         Action::Jump(_) | Action::TailCall(_) | Action::Return
     )
+}
+
+/// Whether the action may change the register of this number, besides giving its value.
+pub fn may_spoil(action: Action, register: u8) -> bool
+    ensures { result ≡ spoils action register }
+{
+    match action {
+        Action::Call(_) => true,
+        Action::Routine(routine) => routine.spoils(register),
+        _ => false,
+    }
 }
 
 /// Whether the action spoils registers.
@@ -443,9 +456,7 @@ fn wishes_before(
         if let Some(wish) = copied_wish(walk, statement, *wish) {
             copied = Some(wish);
         }
-        if !is_result(statement.into, wish.value)
-            && !may_spoil(Some(action), wish.register.number)
-        {
+        if !is_result(statement.into, wish.value) && !may_spoil(action, wish.register.number) {
             wishes.push(*wish)?;
         }
     }

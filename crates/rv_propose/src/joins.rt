@@ -1,10 +1,9 @@
 // The ways to labels: each value that is alive at a label stands there where it stands on all ways to it.
 
 use crate::liveness::{Point, alive_at, is_one_of};
-use crate::places::listing;
 use crate::plans::{Care, Copied, Due, Plans};
 use crate::state::{
-    NUMBERS, any_register, is_copied_in, is_in_slot, is_to_be_had, is_used, register_of,
+    NUMBERS, any_register, is_copied_in, is_in_slot, is_to_be_had, is_used, listing, register_of,
     same_state, stands_in, state_at, used_registers, without_copy_in,
 };
 use kk_base::NoMemory;

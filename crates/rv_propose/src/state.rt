@@ -1,12 +1,15 @@
 // Where values stand while code is written with registers, and which registers are free.
 
-use crate::keeping::may_spoil;
 use crate::liveness::{Point, is_one_of};
-use crate::places::listing;
-use crate::plans::{Plan, Wish};
+use crate::plans::{Plan, Wish, may_spoil};
 use kk_base::NoMemory;
 use rv_isa::{Action, Listed, Operand, Place, Register};
 use std::alloc::Global;
+
+/// Where a value stands, by what is listed.
+pub fn listing(state: &[Listed], value: u32) -> Option<Listed> {
+    state.iter().find(|listed| listed.value == value).copied()
+}
 
 /// The register that has the value: its place, or its copy.
 pub fn register_of(listed: Listed) -> Option<Register> {
@@ -233,11 +236,11 @@ pub fn state_without(alloc: Global, state: &[Listed], value: u32) -> Result<Vec<
 // The listing behind an action: without a copy that the action may spoil, or at the copy where it may spoil the place.
 fn unspoilt(listed: Listed, action: Action) -> Listed {
     match (listed.place, listed.copy) {
-        (_, Some(copy)) if may_spoil(Some(action), copy.number) => Listed {
+        (_, Some(copy)) if may_spoil(action, copy.number) => Listed {
             copy: None,
             ..listed
         },
-        (Place::Register(register), Some(copy)) if may_spoil(Some(action), register.number) => {
+        (Place::Register(register), Some(copy)) if may_spoil(action, register.number) => {
             Listed {
                 place: Place::Register(copy),
                 copy: None,

@@ -4,16 +4,14 @@ use crate::joins::{
     Walk, go_to, index_from, join, kept_register, make_way, put_away, put_copy, put_store,
     spare_register, take_state, twin_register,
 };
-use crate::keeping::may_spoil;
 use crate::liveness::{copy_of, is_one_of};
-use crate::places::listing;
 use crate::plans::{
-    Care, Due, Plan, Plans, goes_on, named_label, plans_of, spoils_many, spoils_some,
+    Care, Due, Plan, Plans, goes_on, may_spoil, named_label, plans_of, spoils_many, spoils_some,
 };
 use crate::state::{
-    argument_register, is_copied_in, is_free, is_in, is_to_be_had, is_wished_for, operands_at,
-    register_of, same_state, standing_in, stands_in, state_at, state_behind, state_clear_of,
-    state_without, wished_register,
+    argument_register, is_copied_in, is_free, is_in, is_to_be_had, is_wished_for, listing,
+    operands_at, register_of, same_state, standing_in, stands_in, state_at, state_behind,
+    state_clear_of, state_without, wished_register,
 };
 use kk_base::NoMemory;
 use rv_isa::{
@@ -315,7 +313,7 @@ fn stands_as_taken(listed: Listed, args: &[u32]) -> bool {
 // Whether a register that the action does not spoil has a copy of the value.
 fn has_safe_copy(listed: Listed, action: Action) -> bool {
     match listed.copy {
-        Some(register) => !may_spoil(Some(action), register.number),
+        Some(register) => !may_spoil(action, register.number),
         None => false,
     }
 }
@@ -357,7 +355,7 @@ fn leave_spoilt(
     for value in &behind.point.alive {
         if let Some(listed) = listing(&walk.state, *value) {
             if let Place::Register(register) = listed.place {
-                if may_spoil(Some(statement.action), register.number) {
+                if may_spoil(statement.action, register.number) {
                     leave_place(alloc, walk, listed, statement, &behind.stored)?;
                 }
             }

@@ -1,5 +1,5 @@
 use Rattle.std.proofs.Common.{◌≤◌, length}
-use Rattle.rv_regs.proofs.plans.plans_of.Given as goal
+use Rattle.rv_propose.proofs.plans.plans_of.Given as goal
 
 abbrev pub invariant-loop-left : goal.invariant-loop-left
 invariant-loop-left l = l.left ≤ length l.code

@@ -2,11 +2,11 @@ use Rattle.std.proofs.Common.{◌≡◌, [], ◌∷◌, ◌++◌, sym, ◌∙◌
 use Rattle.std.proofs.lemmas.Bool.{cond-false}
 use Rattle.rv_isa.specs.declared.asm.Action.{Action}
 use Rattle.rv_isa.specs.AsmMachine.{is_label}
-use Rattle.rv_regs.specs.declared.liveness.LabelPoint.{LabelPoint}
-use Rattle.rv_regs.specs.Tables.{last_at}
-use Rattle.rv_regs.proofs.WalkSteps.{last_at_put, no_label}
-use Rattle.rv_regs.proofs.liveness.with_point.Goals as goal
-use Rattle.rv_regs.proofs.liveness.with_point.Goals.{in-Label+in_ok-push, in_default}
+use Rattle.rv_propose.specs.declared.liveness.LabelPoint.{LabelPoint}
+use Rattle.rv_propose.specs.Tables.{last_at}
+use Rattle.rv_propose.proofs.LabelTables.{last_at_put, no_label}
+use Rattle.rv_propose.proofs.liveness.with_point.Goals as goal
+use Rattle.rv_propose.proofs.liveness.with_point.Goals.{in-Label+in_ok-push, in_default}
 
 pub returns : goal.returns
 returns c =

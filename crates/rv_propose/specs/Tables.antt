@@ -1,6 +1,6 @@
 -- Tables of what is alive at labels.
 use Rattle.std.specs.Prelude.{◌==◌, ℕ, List, [], ◌∷◌, cond}
-use Rattle.rv_regs.specs.declared.liveness.LabelPoint.{LabelPoint}
+use Rattle.rv_propose.specs.declared.liveness.LabelPoint.{LabelPoint}
 
 -- what the last point of a label says, or else `found`
 abbrev pub last_at : ℕ → List ℕ → List LabelPoint → List ℕ

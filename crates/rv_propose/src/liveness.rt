@@ -4,8 +4,8 @@ ghost use Rattle.std.specs.Prelude.{◌≡◌, ◌==◌, ℕ, [], IfOk, OnOk, co
 ghost use Rattle.rv_isa.specs.AsmMachine.{is_label};
 ghost use Rattle.rv_isa.specs.Frames.{is_among};
 ghost use Rattle.rv_isa.specs.WellFormed.{is_written, first_of};
-ghost use Rattle.rv_regs.specs.Alive.{with_values, without, values_before, values_behind, held_before};
-ghost use Rattle.rv_regs.specs.Tables.{last_at};
+ghost use Rattle.rv_propose.specs.Alive.{with_values, without, values_before, values_behind, held_before};
+ghost use Rattle.rv_propose.specs.Tables.{last_at};
 
 use kk_base::NoMemory;
 use rv_isa::Action;
