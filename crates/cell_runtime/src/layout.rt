@@ -13,7 +13,7 @@ const BYTES_BEFORE_CELLS: u32 = CELL_SIZE;
 
 /// Where the runtime's data stand, as distances in bytes from the start of the image's memory part. The buffer of prints
 /// and reads stands at that start.
-#[derive(Clone, Copy, PartialEq, Eq)]
+#[derive(Clone, Copy)]
 pub struct Layout {
     /// The first cell.
     pub cells: u32,

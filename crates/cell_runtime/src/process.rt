@@ -33,7 +33,7 @@ pub fn start(layout: Layout) -> [Native; 8]
 }
 
 /// How a run ends.
-#[derive(Clone, Copy, PartialEq, Eq)]
+#[derive(Clone, Copy)]
 pub enum Ending {
     /// `main` has returned.
     Ended,

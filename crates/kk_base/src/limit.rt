@@ -2,7 +2,7 @@ ghost use Rattle.std.specs.Prelude.{◌≡◌};
 ghost use Rattle.kk_base.specs.Limits.{limit_word_of, greatest_of};
 
 /// A quantity of a program that has a greatest number.
-#[derive(Clone, Copy, PartialEq, Eq)]
+#[derive(Clone, Copy)]
 pub enum LimitKind {
     /// Bytes of the source text.
     Source,
@@ -53,7 +53,7 @@ impl LimitKind {
 }
 
 /// A quantity that passes its greatest number.
-#[derive(Clone, Copy, PartialEq, Eq)]
+#[derive(Clone, Copy)]
 pub struct Limit {
     pub kind: LimitKind,
     pub count: u64,

@@ -1,5 +1,5 @@
 /// A place in a source text.
-#[derive(Clone, Copy, PartialEq, Eq)]
+#[derive(Clone, Copy)]
 pub struct Span {
     /// The byte, from 0.
     pub at: u32,

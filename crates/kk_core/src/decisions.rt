@@ -10,7 +10,7 @@ pub enum Answer {
 }
 
 /// Where a test leads if it finds an answer.
-#[derive(Clone, Copy, PartialEq, Eq)]
+#[derive(Clone, Copy)]
 pub struct Edge {
     pub found: Answer,
     /// The number of a later node.

@@ -5,7 +5,7 @@ use kk_core::ConstructorShape;
 use kk_syntax::Ownership;
 
 /// A parameter of an instance. Parameter `i` is variable `i` of its function.
-#[derive(Clone, Copy, PartialEq, Eq)]
+#[derive(Clone, Copy)]
 pub struct Parameter {
     pub ownership: Ownership,
     /// Whether its type has cells.

@@ -4,7 +4,7 @@ ghost use Rattle.kk_mono.specs.declared.error.MonoError.{MonoError};
 use kk_base::{Limit, NoMemory};
 
 /// Why a program's instances are not given.
-#[derive(Clone, Copy, PartialEq, Eq)]
+#[derive(Clone, Copy)]
 pub enum MonoError {
     /// The limit that the program passes first.
     Over(Limit),

@@ -5,7 +5,7 @@ ghost use Rattle.kk_names.specs.Methods.{is_before};
 use kk_base::{Name, NameError};
 
 /// What is wrong with a name.
-#[derive(Clone, Copy, PartialEq, Eq)]
+#[derive(Clone, Copy)]
 pub enum FaultKind {
     /// It is declared a second time.
     Twice,

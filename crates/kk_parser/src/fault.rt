@@ -4,7 +4,7 @@ ghost use Rattle.kk_parser.specs.declared.fault.Fault.TheVariants as OfFault;
 use kk_base::NoMemory;
 
 /// Why a reading stops. The parser then stands at the token that is the cause.
-#[derive(Clone, Copy, PartialEq, Eq)]
+#[derive(Clone, Copy)]
 pub enum Fault {
     /// No program goes on with the next token.
     Unexpected,

@@ -8,7 +8,7 @@ ghost use Rattle.kk_parser.specs.Views.{class_view, classes_in};
 use kk_syntax::Effect;
 
 /// What the grammar tells apart of a name: the words that it knows, the shape of a type variable, and all others.
-#[derive(Clone, Copy, PartialEq, Eq)]
+#[derive(Clone, Copy)]
 pub enum NameClass {
     Print,
     PrintLine,
@@ -20,7 +20,7 @@ pub enum NameClass {
 }
 
 /// A set of names that a place of the grammar takes.
-#[derive(Clone, Copy, PartialEq, Eq)]
+#[derive(Clone, Copy)]
 pub enum Names {
     All,
     /// `print` and `println`.

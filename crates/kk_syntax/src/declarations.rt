@@ -77,7 +77,7 @@ pub fn count_of_type(constructors: &[Constructor], of_type: u32) -> usize
 }
 
 /// A quantity of a declaration that has a limit, and the byte at which the text names what has it.
-#[derive(Clone, Copy, PartialEq, Eq)]
+#[derive(Clone, Copy)]
 pub struct Quantity {
     pub at: u32,
     pub kind: LimitKind,

@@ -3,7 +3,7 @@ ghost use Rattle.kk_syntax.specs.OwnedPositions.{owned_in};
 ghost use Rattle.kk_syntax.specs.PositionsOf.{is_lent, lends, positions_of};
 
 /// How an argument is passed at a parameter.
-#[derive(Clone, Copy, PartialEq, Eq)]
+#[derive(Clone, Copy)]
 pub enum Ownership {
     /// The called function has it.
     Owned,
@@ -12,7 +12,7 @@ pub enum Ownership {
 }
 
 /// A function and one of its parameters, both by their numbers, from 0.
-#[derive(Clone, Copy, PartialEq, Eq)]
+#[derive(Clone, Copy)]
 pub struct Position {
     pub function: usize,
     pub parameter: usize,

@@ -145,7 +145,7 @@ pub struct Statement {
 }
 
 /// What a statement does with its value.
-#[derive(Clone, Copy, PartialEq, Eq)]
+#[derive(Clone, Copy)]
 pub enum Binder {
     /// Nothing: the statement is an expression.
     Nothing,

@@ -6,7 +6,7 @@ use kk_base::{Name, Span};
 use std::marker::Model;
 
 /// A word that is no name.
-#[derive(Clone, Copy, Debug, PartialEq, Eq)]
+#[derive(Clone, Copy, Debug)]
 pub enum Keyword {
     Type,
     Fun,
@@ -19,7 +19,7 @@ pub enum Keyword {
 }
 
 /// A bracket, a sign of punctuation or an operator.
-#[derive(Clone, Copy, Debug, PartialEq, Eq)]
+#[derive(Clone, Copy, Debug)]
 pub enum Symbol {
     OpenParenthesis,
     CloseParenthesis,

@@ -62,7 +62,7 @@ pub struct FunctionDeclaration {
 }
 
 /// An effect, as in `console ()`.
-#[derive(Clone, Copy, PartialEq, Eq)]
+#[derive(Clone, Copy)]
 pub enum Effect {
     Total,
     Div,

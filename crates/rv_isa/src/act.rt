@@ -1,7 +1,7 @@
 // What an instruction asks of the machine that executes it.
 
 /// The effect of one instruction: where the next one stands, and what is done besides.
-#[derive(Clone, Copy, PartialEq, Eq)]
+#[derive(Clone, Copy)]
 pub struct Effect {
     /// The address of the next instruction. It may be misaligned after a taken transfer.
     pub next: u32,

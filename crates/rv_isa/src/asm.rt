@@ -32,7 +32,7 @@ pub struct Statement {
 }
 
 /// What a statement does, apart from its values.
-#[derive(Clone, Copy, PartialEq, Eq)]
+#[derive(Clone, Copy)]
 pub enum Action {
     /// An operation on words.
     Compute(Operation),
@@ -61,7 +61,7 @@ pub enum Action {
 }
 
 /// When a branch is taken, by the names of the instructions.
-#[derive(Clone, Copy, PartialEq, Eq)]
+#[derive(Clone, Copy)]
 pub enum Condition {
     /// `beq`
     Equal,
@@ -95,7 +95,7 @@ impl Condition {
 
 /// An operation on words: an instruction of RV32IM that sets a register, loads or stores; or a pseudo-instruction of the
 /// assembler.
-#[derive(Clone, Copy, PartialEq, Eq)]
+#[derive(Clone, Copy)]
 pub enum Operation {
     /// On two values.
     Register(RegisterOperation),
@@ -120,7 +120,7 @@ pub enum Operation {
 }
 
 /// An instruction on two registers.
-#[derive(Clone, Copy, PartialEq, Eq)]
+#[derive(Clone, Copy)]
 pub enum RegisterOperation {
     Add,
     Sub,
@@ -143,7 +143,7 @@ pub enum RegisterOperation {
 }
 
 /// An instruction on a register and an immediate.
-#[derive(Clone, Copy, PartialEq, Eq)]
+#[derive(Clone, Copy)]
 pub enum ImmediateOperation {
     Addi,
     Slti,
@@ -154,7 +154,7 @@ pub enum ImmediateOperation {
 }
 
 /// A shift by a number of places that the instruction names.
-#[derive(Clone, Copy, PartialEq, Eq)]
+#[derive(Clone, Copy)]
 pub enum ShiftOperation {
     Slli,
     Srli,

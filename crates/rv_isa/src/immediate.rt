@@ -36,7 +36,7 @@ impl Immediate {
 }
 
 /// The distance of a conditional branch in bytes: even, -4096 to 4094.
-#[derive(Clone, Copy, PartialEq, Eq)]
+#[derive(Clone, Copy)]
 pub struct BranchOffset {
     pub word: u32,
     pub ghost in_range: { IsBranchOffset word },
@@ -65,7 +65,7 @@ impl BranchOffset {
 }
 
 /// The distance of a jump in bytes: even, -1048576 to 1048574.
-#[derive(Clone, Copy, PartialEq, Eq)]
+#[derive(Clone, Copy)]
 pub struct JumpOffset {
     pub word: u32,
     pub ghost in_range: { IsJumpOffset word },
@@ -94,7 +94,7 @@ impl JumpOffset {
 }
 
 /// The upper 20 bits of a word, whose lower 12 bits are zero.
-#[derive(Clone, Copy, PartialEq, Eq)]
+#[derive(Clone, Copy)]
 pub struct UpperImmediate {
     pub word: u32,
     pub ghost in_range: { IsUpperImmediate word },

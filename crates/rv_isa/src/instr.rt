@@ -9,7 +9,7 @@ use crate::{BranchOffset, Immediate, JumpOffset, Register, ShiftAmount, UpperImm
 /// Source: The RISC-V Instruction Set Manual, Volume I: Unprivileged ISA, chapter 2 "RV32I Base
 /// Integer Instruction Set" and the chapter '"M" Standard Extension for Integer Multiplication
 /// and Division'.
-#[derive(Clone, Copy, PartialEq, Eq)]
+#[derive(Clone, Copy)]
 pub enum Instr {
     // Integer computational instructions with an upper immediate
     Lui {
@@ -253,7 +253,7 @@ pub enum Instr {
 
 /// The registers of an instruction: its destination and its two sources. `x0` stands for one that
 /// its format has not.
-#[derive(Clone, Copy, PartialEq, Eq)]
+#[derive(Clone, Copy)]
 pub struct Operands {
     pub rd: Register,
     pub rs1: Register,

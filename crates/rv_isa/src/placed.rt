@@ -71,7 +71,7 @@ impl Placed {
 }
 
 /// The memory that a text may write.
-#[derive(Clone, Copy, PartialEq, Eq)]
+#[derive(Clone, Copy)]
 pub struct DataSection {
     /// Its size in bytes.
     pub size: u32,
@@ -87,7 +87,7 @@ pub struct PlacedFunction {
 }
 
 /// Where a value stands.
-#[derive(Clone, Copy, PartialEq, Eq)]
+#[derive(Clone, Copy)]
 pub enum Place {
     Register(Register),
     /// A word of the function's frame, by its index.
@@ -95,7 +95,7 @@ pub enum Place {
 }
 
 /// A value that is read or written, and where.
-#[derive(Clone, Copy, PartialEq, Eq)]
+#[derive(Clone, Copy)]
 pub struct Operand {
     pub value: u32,
     pub place: Place,
@@ -103,7 +103,7 @@ pub struct Operand {
 
 /// A value that is alive, and where it stands; besides, a register may have it too. It is held where it may stand on the chain
 /// of held tokens.
-#[derive(Clone, Copy, PartialEq, Eq)]
+#[derive(Clone, Copy)]
 pub struct Listed {
     pub value: u32,
     pub place: Place,
@@ -113,7 +113,7 @@ pub struct Listed {
 }
 
 /// A way from one place to another: on one side there is a register.
-#[derive(Clone, Copy, PartialEq, Eq)]
+#[derive(Clone, Copy)]
 pub enum Way {
     /// `mv`
     Copy { from: Register, to: Register },
@@ -166,7 +166,7 @@ impl Item {
 }
 
 /// A line of code that names its registers itself.
-#[derive(Clone, Copy, PartialEq, Eq)]
+#[derive(Clone, Copy)]
 pub enum Native {
     /// An instruction as it stands: none that jumps or branches within the text.
     Instruction(Instr),
@@ -191,7 +191,7 @@ pub enum Native {
 }
 
 /// A place in a text, by its name.
-#[derive(Clone, Copy, PartialEq, Eq)]
+#[derive(Clone, Copy)]
 pub enum Symbol {
     /// Where the machine starts.
     Start,
@@ -207,7 +207,7 @@ pub enum Symbol {
 }
 
 /// What stands in memory beside the code.
-#[derive(Clone, Copy, PartialEq, Eq)]
+#[derive(Clone, Copy)]
 pub enum Section {
     /// The memory that the text may write.
     Data,

@@ -4,7 +4,7 @@ ghost use Rattle.std.specs.Prelude.{◌≡◌, slice_get};
 ghost use Rattle.rv_isa.specs.Routines.{taken_by, given_by, is_spoilt_by};
 
 /// A routine that a program calls. Hold and unhold are actions of their own, since they mark their token.
-#[derive(Clone, Copy, PartialEq, Eq)]
+#[derive(Clone, Copy)]
 pub enum Routine {
     /// Gives a cell: a free one, or the newest held token, in whose slot it leaves 0.
     Take,

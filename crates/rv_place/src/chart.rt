@@ -82,7 +82,7 @@ impl Chart {
 }
 
 /// The addresses of the runtime's symbols. One that the runtime does not have is any number.
-#[derive(Clone, Copy, PartialEq, Eq)]
+#[derive(Clone, Copy)]
 pub struct Symbols {
     pub stack_full: u32,
     pub take: u32,

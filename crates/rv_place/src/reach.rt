@@ -10,7 +10,7 @@ use rv_isa::sizes::REACH_DOWN;
 use rv_isa::{Operand, Place, Routine};
 
 /// How far a jump or a branch leads; of the jumps of a text also whether its frames are wide.
-#[derive(Clone, Copy, PartialEq, Eq)]
+#[derive(Clone, Copy)]
 pub enum Reach {
     /// As far as its own instruction can name.
     Near,
@@ -37,7 +37,7 @@ pub fn words_of_routine(jumps: Reach, routine: Routine) -> u32
 }
 
 /// How far the jumps of a function and its branches lead, and whether it takes a frame.
-#[derive(Clone, Copy, PartialEq, Eq)]
+#[derive(Clone, Copy)]
 pub struct Forms {
     pub jumps: Reach,
     pub branches: Reach,
@@ -182,7 +182,7 @@ impl Forms {
 }
 
 /// How a word comes to a register.
-#[derive(Clone, Copy, PartialEq, Eq)]
+#[derive(Clone, Copy)]
 pub enum WordForm {
     /// By an addition to zero: the word is an immediate.
     Short,

@@ -6,7 +6,7 @@ use kk_base::NoMemory;
 use std::alloc::Global;
 
 /// What is done at an address.
-#[derive(Clone, Copy, PartialEq, Eq)]
+#[derive(Clone, Copy)]
 pub enum Access {
     Fetch,
     Load,

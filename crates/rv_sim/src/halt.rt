@@ -23,7 +23,7 @@ pub(crate) enum Phase {
 }
 
 /// What became of an instruction.
-#[derive(Clone, Copy, PartialEq, Eq)]
+#[derive(Clone, Copy)]
 pub(crate) enum Turn {
     /// It was executed, or it trapped.
     Over,
@@ -32,7 +32,7 @@ pub(crate) enum Turn {
 }
 
 /// A device that failed.
-#[derive(Clone, Copy, PartialEq, Eq)]
+#[derive(Clone, Copy)]
 pub(crate) enum Device {
     Input,
     Output,
