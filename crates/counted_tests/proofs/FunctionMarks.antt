@@ -10,7 +10,7 @@ use Rattle.kk_core.specs.Decisions.{NodeTree}
 use Rattle.kk_core.specs.Truths.{truth_decisions}
 use Rattle.kk_counted.specs.CountedCodes.{Counted, give, tail_call, case, compute, inside, read, open_cell, if_unique, dup, drop, no_arm, arm, CountedFunction}
 use Rattle.kk_counted.specs.CountedForms.{plug}
-use Rattle.kk_counted.specs.Drafts.{Draft, begun, given, duplicated, dropped, unpacked, looked, computed, forked, entered, ended_by_value, ended_by_call, joined, finished}
+use Rattle.kk_counted.specs.Drafts.{Draft, begun, given, duplicated, dropped, unpacked, looked, computed, ended_by_value, ended_by_call, joined, finished}
 use Rattle.kk_counted.specs.Emitting.{BecomesMarked}
 use Rattle.kk_counted.specs.Marks.{CellMarks, HasMark, CanBeMarked}
 use Rattle.counted_tests.specs.CellTables.{table_of}
@@ -19,10 +19,6 @@ use Rattle.counted_tests.specs.TwoRows.{behind_first, box_row}
 -- a function of one parameter
 abbrev pub with_body : Counted → CountedFunction
 with_body body = record { parameters = 1; body = body }
-
--- the draft that is begun of an owned box
-abbrev pub box_begun : Draft
-box_begun = begun ((Owned ∷ []) ∷ []) (1 ∷ []) (table_of ((true ∷ []) ∷ [])) 0
 
 -- what is begun of equal tables
 pub same_begun : (p p' : PositionTable) (q q' : List ℕ) (m m' : CellMarks) (d : Draft) → p ≡ p' → q ≡ q' → m ≡ m' → d ≡ begun p q m 0
@@ -45,10 +41,6 @@ pub computed_same : (form : Form) (xs xs' : List ℕ) (d d' e : Draft) → e ≡
 computed_same form xs xs' d d' e is same all =
     is ∙ (ap (λ z. computed d form z z) all ∙ ap (λ z. computed z form xs' xs') same)
 
-pub entered_same : (d d' e : Draft) → (d.failed ≡ false → e ≡ entered d) → d ≡ d' → d'.failed ≡ false → e ≡ entered d'
-entered_same d d' e is same going = is (ap (λ z. z.failed) same ∙ going) ∙ ap (λ z. entered z) same
-
--- what is taken of one reference
 pub only_taken : (rest : List ℕ) (x y : ℕ) → y ∷ [] ≡ rest ++ x ∷ [] → x ≡ y
 only_taken [] x y is = cc
 only_taken (z ∷ []) x y is = absurd (cc)
@@ -139,22 +131,6 @@ innermost_marked decisions = (
   },
 )
 
--- it opens two boxes, and by what is inside gives that
-pub two_marked : (decisions : List NodeTree) → CanBeMarked (table_of ((true ∷ []) ∷ [])) 0
-    (with_body
-    (open_cell 0 0 (1 ∷ []) (1 ∷ [])
-    (open_cell 1 0 (2 ∷ []) (2 ∷ []) (inside 3 (case 2 decisions (arm (give 2) (arm (give 2) (arm (give 2) no_arm)))) (give 3)))))
-two_marked decisions = (
-  λ x. true,
-  record {
-    parameters_marked = (refl, tt);
-    body_marked = (
-      (refl, (refl, (refl, tt))),
-      ((refl, (refl, (refl, tt))), ((refl, ((refl, refl), ((refl, refl), ((refl, refl), tt)))), (refl, refl))),
-    );
-  },
-)
-
 -- ---- on trees and lists
 
 -- a branch on the parameter, of two rows, whose value a variable takes
@@ -209,19 +185,6 @@ EndsMarked d = BecomesMarked (joined d) (finished (joined d) d.next)
 
 pub innermost_ends : (d : Draft) → d ≡ ended_by_call box_row 0 (1 ∷ []) → EndsMarked d
 innermost_ends d is = subst EndsMarked (sym is) (λ going. innermost_marked truth_decisions)
-
-pub two_ends : (decisions : List NodeTree) (d : Draft)
-    → d ≡ ended_by_value
-    (entered
-    (ended_by_value
-    (entered
-    (ended_by_value
-    (entered (forked (unpacked (unpacked (given box_begun 0) false 0 0 1) false 1 0 1) 2 decisions (2 ∷ []) 3))
-    2))
-    2))
-    2
-    → EndsMarked d
-two_ends decisions d is = subst EndsMarked (sym is) (λ going. two_marked decisions)
 
 -- the row of a cell, behind the row of none
 abbrev pub row_begun : CellMarks → Draft

@@ -1,4 +1,4 @@
-//! How arms and functions are ended: by a value, with tokens or without, where a branch is joined or there is none.
+//! How arms and functions are ended: by a value or a tail call, where a branch is joined or there is none.
 
 ghost use Rattle.std.specs.Prelude.{◌≡◌, ◌∷◌, [], true, false, None, IfOk, OnOk, OnErr};
 ghost use Rattle.kk_syntax.specs.declared.positions.Ownership.TheVariants.{Owned};
@@ -11,7 +11,7 @@ ghost use Rattle.kk_counted.specs.TokenEmissions.{counted_of, tokens_of};
 ghost use Rattle.kk_counted.specs.TokenEmitting.{HasSpare, HasNoSpare, HasAllSpare, CanEnd, EndsTokenArm, IsTokenedFunctionOf};
 ghost use Rattle.kk_counted.specs.Works.{left_in};
 
-use crate::losing::{abandoned, lose, lose_all, lose_arms, lose_token};
+use crate::losing::{abandoned, lose, lose_all, lose_arms};
 use kk_base::NoMemory;
 use kk_counted::{Arms, Debts, Owed, Spare, TokenArmEnd, TokenEmitter, TokenedFun, give_up};
 
@@ -66,39 +66,6 @@ pub fn given_without(
     ended(emitter, TokenArmEnd::Value(value, others), arms)
 }
 
-/// Frees a token, and ends the arm by a value and another token.
-pub fn given_with(
-    emitter: &mut TokenEmitter<'_>,
-    value: Owed,
-    freed: Spare,
-    left: Spare,
-    mut others: Debts,
-    arms: Arms,
-) -> Result<Arms, NoMemory>
-    requires writes { Writes (counted_of emitter.old) }
-    requires arm { (counted_of emitter.old).failed ≡ false → IsInArm (counted_of emitter.old).splits }
-    requires only { IsOnly (counted_of emitter.old) value.emitter value.variable }
-    requires freed { HasSpare (counted_of emitter.old) (tokens_of emitter.old) freed.emitter freed.slot }
-    requires left { HasAllSpare (counted_of emitter.old) (spends (tokens_of emitter.old) (TokenedMove.frees freed.slot) freed.slot) left.emitter (left.slot ∷ []) }
-    requires none { (others.variables.items ≡ []) × (others.spare.items ≡ []) }
-    requires can { (counted_of emitter.old).failed ≡ false → CanEnd (spends (tokens_of emitter.old) (TokenedMove.frees freed.slot) freed.slot) false (tokens_of emitter.old).splits }
-    requires value { (counted_of emitter.old).failed ≡ false → (tokens_of emitter.old).ending ≡ None }
-    ensures going { OnOk result ((counted_of emitter.old).failed ≡ false) }
-    ensures ok { OnOk result (counted_of emitter.new ≡ ended_by_value (counted_of emitter.old) value.variable) }
-    ensures tokens { OnOk result (tokens_of emitter.new ≡ tokens_ended_in (spends (tokens_of emitter.old) (TokenedMove.frees freed.slot) freed.slot) (Tokened.give value.variable) false (tokens_of emitter.old).splits) }
-    ensures same { IfOk result (λ left. left ≡ arms) }
-    ensures failed { OnErr result ((counted_of emitter.new).failed ≡ true) }
-{
-    if let Err(kept) = others.put_spare(left) {
-        emitter.abandon(kept);
-        lose(emitter, value);
-        lose_token(emitter, freed);
-        others.close();
-        return Err(lose_arms(emitter, arms));
-    }
-    given_without(emitter, value, freed, others, arms)
-}
-
 /// Ends the function by the value that a reference owns.
 pub fn completed(emitter: TokenEmitter<'_>, value: Owed) -> Result<TokenedFun, NoMemory>
     requires inside { (counted_of emitter).failed ≡ false → (counted_of emitter).inside ≡ true }
@@ -135,36 +102,5 @@ pub fn finished(mut emitter: TokenEmitter<'_>, arms: Arms) -> Result<TokenedFun,
         Err(kept) => return Err(abandoned(&mut emitter, kept)),
     };
     debts.close();
-    completed(emitter, value)
-}
-
-/// Joins the branch, which leaves one token, frees that and ends the function by the branch's value.
-pub fn freed_and_finished(mut emitter: TokenEmitter<'_>, arms: Arms) -> Result<TokenedFun, NoMemory>
-    requires between { IsBetween (counted_of emitter) }
-    requires newest { (counted_of emitter).failed ≡ false → AreNewest (counted_of emitter).splits arms.depth [] }
-    requires left { left_in arms.left.items ≡ [] }
-    requires instance { (counted_of emitter).instance ≡ 0 }
-    requires of { ((joined (counted_of emitter)).instance ≡ 0) × ((joined (counted_of emitter)).positions ≡ (Owned ∷ []) ∷ []) }
-    requires inside { ((joined (counted_of emitter)).inside ≡ true) × ((joined (counted_of emitter)).ending ≡ None) }
-    requires joined { (joined (counted_of emitter)).splits ≡ [] }
-    requires called { (joined (counted_of emitter)).uncalled ≡ [] }
-    requires only { (joined (counted_of emitter)).owed ≡ (counted_of emitter).next ∷ [] }
-    requires marked { BecomesMarked (joined (counted_of emitter)) (finished_code (joined (counted_of emitter)) (counted_of emitter).next) }
-    requires one { (tokens_joined (tokens_of emitter) (counted_of emitter).next).spare ≡ 1 ∷ [] }
-    ensures { IfOk result (λ function. IsTokenedFunctionOf ((Owned ∷ []) ∷ []) 0 function) }
-{
-    let (value, mut debts) = match emitter.join(arms) {
-        Ok(both) => both,
-        Err(kept) => return Err(abandoned(&mut emitter, kept)),
-    };
-    let Some(spare) = debts.take_spare() else {
-        unreachable!();
-    };
-    debts.close();
-    if let Err(kept) = emitter.release(spare) {
-        let error = abandoned(&mut emitter, kept);
-        lose(&mut emitter, value);
-        return Err(error);
-    }
     completed(emitter, value)
 }

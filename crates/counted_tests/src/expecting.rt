@@ -37,39 +37,34 @@ pub fn reads(step: &TokenedStep, variable: u32, fields: &[u32]) -> bool {
     }
 }
 
-/// How a step opens a cell: by its count or not, of which variable, into which fields, which of them are used, and in which slot
-/// the token stands.
+/// How a step opens a cell: by its count or not, into which fields, and which of them are used.
 #[derive(Drop)]
 struct Opening<'a> {
     by_count: bool,
-    variable: u32,
     fields: &'a [u32],
     used: &'a [u32],
-    slot: u32,
 }
 
-/// How a step opens a cell, by the first constructor.
+/// How a step opens the cell of the first variable, by the first constructor, where its token stands in the first slot.
 fn opening_of(step: &TokenedStep) -> Option<Opening<'_>> {
     match step {
         TokenedStep::Open {
-            variable,
+            variable: 0,
             constructor: 0,
             fields,
             used,
-            slot,
+            slot: 0,
         }
         | TokenedStep::IfUnique {
-            variable,
+            variable: 0,
             constructor: 0,
             fields,
             used,
-            slot,
+            slot: 0,
         } => Some(Opening {
             by_count: matches!(step, TokenedStep::IfUnique { .. }),
-            variable: *variable,
             fields,
             used,
-            slot: *slot,
         }),
         _ => None,
     }
@@ -80,10 +75,8 @@ fn opens_as(step: &TokenedStep, expected: &Opening<'_>) -> bool {
     match opening_of(step) {
         Some(found) => {
             found.by_count == expected.by_count
-                && found.variable == expected.variable
                 && found.fields == expected.fields
                 && found.used == expected.used
-                && found.slot == expected.slot
         }
         None => false,
     }
@@ -91,23 +84,10 @@ fn opens_as(step: &TokenedStep, expected: &Opening<'_>) -> bool {
 
 /// Whether the cell of the first variable is opened, and its token stands in the first slot.
 pub fn opens(step: &TokenedStep, fields: &[u32], used: &[u32]) -> bool {
-    opens_into(step, 0, fields, used, 0)
-}
-
-/// Whether the cell of a variable is opened, and its token stands in a slot.
-pub fn opens_into(
-    step: &TokenedStep,
-    variable: u32,
-    fields: &[u32],
-    used: &[u32],
-    slot: u32,
-) -> bool {
     let expected = Opening {
         by_count: false,
-        variable,
         fields,
         used,
-        slot,
     };
     opens_as(step, &expected)
 }
@@ -116,10 +96,8 @@ pub fn opens_into(
 pub fn opens_by_count(step: &TokenedStep, fields: &[u32], used: &[u32]) -> bool {
     let expected = Opening {
         by_count: true,
-        variable: 0,
         fields,
         used,
-        slot: 0,
     };
     opens_as(step, &expected)
 }
@@ -164,17 +142,6 @@ pub fn calls(last: &TokenedLast, arguments: &[u32]) -> bool {
 pub fn rows_of(last: &TokenedLast, variable: u32) -> &[TokenedBlock] {
     match last {
         TokenedLast::Case(on, _, rows) if *on == variable => rows.as_slice(),
-        _ => &[],
-    }
-}
-
-/// The blocks of the rows of a branch on a variable, whose value another variable takes.
-pub fn rows_inside(step: &TokenedStep, value: u32, variable: u32) -> &[TokenedBlock] {
-    match step {
-        TokenedStep::Inside {
-            variable: to,
-            block,
-        } if *to == value && block.steps.is_empty() => rows_of(&block.last, variable),
         _ => &[],
     }
 }

@@ -1,4 +1,3 @@
-use Rattle.std.proofs.Common.{◌≡◌}
 use Rattle.kk_counted.specs.TokenEmissions.{counted_of}
 use Rattle.counted_tests.proofs.FunctionMarks.{ended_marked}
 use Rattle.counted_tests.proofs.ending.finished.Goals as goal

@@ -1,4 +1,4 @@
-use Rattle.std.proofs.Common.{◌≡◌, true, List, [], ◌∷◌, ap, ◌∙◌}
+use Rattle.std.proofs.Common.{true, [], ◌∷◌, ap, ◌∙◌}
 use Rattle.kk_syntax.specs.declared.program.Form.TheVariants.{Call, Construct}
 use Rattle.kk_counted.specs.Drafts.{given, unpacked, computed}
 use Rattle.kk_counted.specs.TokenEmissions.{counted_of}

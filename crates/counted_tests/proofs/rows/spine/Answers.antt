@@ -1,4 +1,4 @@
-use Rattle.std.proofs.Common.{◌≡◌, List, [], ◌∷◌, ap, ◌∙◌}
+use Rattle.std.proofs.Common.{ap, ◌∙◌}
 use Rattle.kk_counted.specs.Drafts.{given, ended_by_value}
 use Rattle.kk_counted.specs.TokenEmissions.{counted_of}
 use Rattle.counted_tests.specs.TwoRows.{behind_first}

@@ -1,8 +1,0 @@
-use Rattle.std.proofs.Common.{◌≡◌, ◌∙◌}
-use Rattle.kk_counted.specs.TokenEmissions.{counted_of}
-use Rattle.counted_tests.proofs.FunctionMarks.{ended_marked}
-use Rattle.counted_tests.proofs.ending.freed_and_finished.Goals as goal
-
-pub completed-requires-clause-marked : goal.completed-requires-clause-marked
-completed-requires-clause-marked c =
-    ended_marked (counted_of c.release.new.self) _ c.in-Ok.both.0.variable _ (c.release.ensures.ok ∙ c.in-Ok.ensures.ok) c.in-Ok.ensures.owed.1 c.requires.marked
