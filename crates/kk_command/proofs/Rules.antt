@@ -1,7 +1,8 @@
 -- What the arguments of the line and its command are for clap, setting by setting.
 use Rattle.std.proofs.Common.{◌≡◌, ℕ, true, Some, ap, ◌∙◌}
+use Rattle.std.specs.Prelude.{Result, Ok, Err, IfOk, IsOkAnd}
 use Rattle.std.specs.Borrow.{Bor}
-use Rattle.clap.specs.Words.{App, Rule, Text, app_of, rule_of}
+use Rattle.clap.specs.Words.{App, Rule, Text, app_of, rule_of, with_subcommand}
 use Rattle.clap.specs.Simple.{app_of_fields}
 use Rattle.clap.specs.declared.builder.action.ArgAction.{ArgAction}
 use Rattle.clap.specs.declared.builder.arg.Arg.{Arg}
@@ -30,3 +31,17 @@ module _ (before after : Command) (app : App) (is : app_of before ≡ app) where
 
   pub with_command : fields_of after ≡ record (fields_of before) { subcommand_required = true } → app_of after ≡ record app { top = record app.top { subcommand_required = true } }
   with_command set = ap app_of_fields set ∙ ap (λ (a : App). record a { top = record a.top { subcommand_required = true } }) is
+
+-- what is made for clap, if there is memory for it, is this
+abbrev pub IsLike : {E : Type 0} → Result Command E → App → Type 0
+IsLike made app = IfOk made (λ c. app_of c ≡ app)
+
+-- a program and a command of these lines, and the program with the command
+pub with_line : {E : Type 0} (program command result : Result Command E) (app line : App)
+    → IfOk result (λ r. IsOkAnd program (λ p. IsOkAnd command (λ c. app_of r ≡ with_subcommand (app_of p) (app_of c).top)))
+    → IsLike program app → IsLike command line → IsLike result (with_subcommand app line.top)
+with_line program command (Err e) app line added one other = tt
+with_line (Err e) command (Ok r) app line added one other = absurd added
+with_line (Ok p) (Err e) (Ok r) app line added one other = absurd added
+with_line (Ok p) (Ok c) (Ok r) app line added one other =
+    added ∙ (ap (λ a. with_subcommand a (app_of c).top) one ∙ ap (λ (a : App). with_subcommand app a.top) other)

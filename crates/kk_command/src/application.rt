@@ -1,8 +1,8 @@
 //! The line of the program, for clap.
-ghost use Rattle.std.specs.Prelude.{◌≡◌, false, codes, IfOk};
+ghost use Rattle.std.specs.Prelude.{◌≡◌, false, codes, IfOk, IsOkAnd};
 ghost use Rattle.clap.specs.Words.{app_of, rule_of, with_rule, with_subcommand};
 ghost use Rattle.clap.specs.declared.builder.command.Command.TheViews.{out-Command as fields_of};
-ghost use Rattle.kk_command.specs.Requests.{required, optional, flag, out_rule, check_app, with_sizes, build_app, run_app, sim_app, eval_app, bench_app, bare_app, with_run_commands, line_app};
+ghost use Rattle.kk_command.specs.Requests.{required, optional, flag, out_rule, check_app, with_sizes, build_app, run_app, sim_app, eval_app, bench_app, bare_app, line_app};
 
 use clap::{Arg, ArgAction, Command as App};
 use std::alloc::{AllocError, Global};
@@ -124,29 +124,26 @@ fn bare_application<'a>(alloc: Global) -> App<'a>
         .subcommand_required(true)
 }
 
-/// Adds the commands that run nothing.
-fn with_text_commands<'a>(alloc: Global, command: App<'a>) -> Result<App<'a>, AllocError>
-    ensures { IfOk result (λ c. app_of c ≡ with_subcommand (with_subcommand (app_of command.entry) check_app.top) build_app.top) }
+/// Adds a command to the program, where both are there.
+fn with_command<'a>(
+    program: Result<App<'a>, AllocError>,
+    command: Result<App<'a>, AllocError>,
+) -> Result<App<'a>, AllocError>
+    requires { IfOk command (λ c. (fields_of c).has_globals ≡ false) }
+    ensures { IfOk result (λ r. IsOkAnd program.entry (λ p. IsOkAnd command.entry (λ c. app_of r ≡ with_subcommand (app_of p) (app_of c).top))) }
 {
-    command
-        .subcommand(check_command(alloc)?)?
-        .subcommand(build_command(alloc)?)
-}
-
-/// Adds the commands that run a file.
-fn with_run_commands<'a>(alloc: Global, command: App<'a>) -> Result<App<'a>, AllocError>
-    ensures { IfOk result (λ c. app_of c ≡ with_run_commands (app_of command.entry)) }
-{
-    command
-        .subcommand(run_command(alloc)?)?
-        .subcommand(sim_command(alloc)?)?
-        .subcommand(eval_command(alloc)?)
+    program?.subcommand(command?)
 }
 
 /// The program with its commands, as clap reads its line.
 pub fn application<'a>(alloc: Global) -> Result<App<'a>, AllocError>
     ensures app { IfOk result (λ c. app_of c ≡ line_app) }
 {
-    let command = with_text_commands(alloc, bare_application(alloc))?;
-    with_run_commands(alloc, command)?.subcommand(bench_command(alloc)?)
+    let program = Ok(bare_application(alloc));
+    let program = with_command(program, check_command(alloc));
+    let program = with_command(program, build_command(alloc));
+    let program = with_command(program, run_command(alloc));
+    let program = with_command(program, sim_command(alloc));
+    let program = with_command(program, eval_command(alloc));
+    with_command(program, bench_command(alloc))
 }
