@@ -15,3 +15,4 @@ pub use liveness::{
 pub use local::local_function;
 pub use numbering::with_tokens_first;
 pub use plans::may_spoil;
+pub use state::listing;

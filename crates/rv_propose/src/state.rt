@@ -1,5 +1,8 @@
 // Where values stand while code is written with registers, and which registers are free.
 
+ghost use Rattle.std.specs.Prelude.{◌≡◌};
+ghost use Rattle.rv_propose.specs.Listings.{listed_as};
+
 use crate::liveness::{Point, is_one_of};
 use crate::plans::{Plan, Wish, may_spoil};
 use kk_base::NoMemory;
@@ -7,8 +10,15 @@ use rv_isa::{Action, Listed, Operand, Place, Register};
 use std::alloc::Global;
 
 /// Where a value stands, by what is listed.
-pub fn listing(state: &[Listed], value: u32) -> Option<Listed> {
-    state.iter().find(|listed| listed.value == value).copied()
+pub fn listing(state: &[Listed], value: u32) -> Option<Listed>
+    ensures { result ≡ listed_as value state.now }
+{
+    for listed in state {
+        if listed.value == value {
+            return Some(*listed);
+        }
+    }
+    None
 }
 
 /// The register that has the value: its place, or its copy.

@@ -1,5 +1,5 @@
 -- Steps of a walk from the end of code back.
-use Rattle.std.proofs.Common.{◌≡◌, ◌==◌, ◌≤◌, ◌<◌, ◌+◌, ◌-◌, ℕ, suc, List, [], ◌∷◌, ◌++◌, false, cond, All, refl, sym, ◌∙◌, ap, subst, arith, map, reverse, length, take, drop, get_or, length-drop}
+use Rattle.std.proofs.Common.{◌≡◌, ◌≤◌, ◌<◌, ◌+◌, ◌-◌, ℕ, suc, List, [], ◌∷◌, ◌++◌, All, refl, sym, ◌∙◌, ap, subst, arith, map, reverse, length, take, drop, get_or, length-drop}
 use Rattle.std.specs.List.{filter}
 use Rattle.std.proofs.Math.Seq.{drop-cons}
 use Rattle.std.proofs.lemmas.List.{map-append, reverse-append, take_all}
@@ -13,7 +13,6 @@ use Rattle.rv_isa.specs.declared.placed.Item.{Item}
 use Rattle.rv_isa.specs.declared.placed.Listed.{Listed}
 use Rattle.rv_isa.specs.declared.placed.Way.TheVariants.{Load, Store}
 use Rattle.rv_isa.specs.AsmCode.{Line, line_of}
-use Rattle.rv_isa.specs.AsmMachine.{is_label}
 use Rattle.rv_isa.specs.PlacedCode.{PlacedLine, moves, placed_line_of}
 use Rattle.rv_isa.specs.Conventions.{argument}
 use Rattle.rv_isa.specs.Frames.{is_among}

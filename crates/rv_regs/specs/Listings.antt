@@ -9,6 +9,7 @@ use Rattle.rv_isa.specs.PlacedCode.{PlacedLine, does, moves}
 use Rattle.rv_isa.specs.Conventions.{spoils}
 use Rattle.rv_isa.specs.Frames.{found}
 use Rattle.rv_isa.specs.PlacedMachine.{is_label_line}
+pub use Rattle.rv_propose.specs.Listings.{listed_as}
 
 -- the values that are alive before a line
 abbrev pub alive_before : PlacedLine → List Listed
@@ -40,11 +41,6 @@ one_if (Some a) more = a ∷ more
 
 abbrev pub both_of : {A : Type 0} → Option A → Option A → List A
 both_of a b = one_if a (one_if b [])
-
--- the listing of a value, the first one
-abbrev pub listed_as : ℕ → List Listed → Option Listed
-listed_as v [] = None
-listed_as v (l ∷ ls) = cond (l.value == v) (Some l) (listed_as v ls)
 
 abbrev pub is_read_in : List Operand → ℕ → Bool
 is_read_in [] v = false

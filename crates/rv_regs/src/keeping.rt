@@ -1,19 +1,18 @@
 // What a line keeps of the values that are listed where it goes on.
 
-ghost use Rattle.std.specs.Prelude.{◌≡◌, ◌≢◌, ◌⊎◌, ◌↔◌, [], IsTrue, All, option_map};
+ghost use Rattle.std.specs.Prelude.{◌≡◌, ◌≢◌, ◌⊎◌, ◌↔◌, IsTrue, All, option_map};
 ghost use Rattle.std.specs.List.{AllByRecursion};
 ghost use Rattle.rv_isa.specs.declared.placed.Place.{Place};
-ghost use Rattle.rv_regs.specs.Listings.{one_if, both_of, listed_as, with_copy, is_first_read, spoils_by, marks};
+ghost use Rattle.rv_regs.specs.Listings.{both_of, listed_as, with_copy, is_first_read, spoils_by, marks};
 ghost use Rattle.rv_regs.specs.Conditions.{OnCopy, AtBoth, written_by, IsNew, HasCopyIn, IsCopied, IsAtCopy, StaysListed, IsClearOf, IsSafe};
 ghost use Rattle.rv_regs.specs.Conditions.{IsKept, IsNeeded, IsListedIn, IsHandedOut, WriteIsHandedOut, IsInSlot, StaysHeld};
 ghost use Rattle.rv_regs.specs.Views.{point_of};
 ghost use Rattle.rv_isa.specs.declared.placed.Listed.{Listed};
 
 use crate::conventions::{may_have_value, may_set};
-use crate::places::{
-    is_copy_at, is_listed, is_read, is_written, listing, same_listing, same_place,
-};
+use crate::places::{is_copy_at, is_listed, is_read, is_written, same_listing, same_place};
 use rv_isa::{Action, Listed, Operand, Place, Register};
+use rv_propose::listing;
 
 /// Whether the action may change the register of this number, besides giving its value. A move is no action.
 pub fn may_spoil(action: Option<Action>, register: u8) -> bool

@@ -6,7 +6,7 @@ ghost use Rattle.kk_base.specs.declared.limit.LimitKind.TheVariants.{Parameters}
 ghost use Rattle.rv_isa.specs.declared.placed.Listed.{Listed};
 ghost use Rattle.rv_isa.specs.declared.placed.Operand.{Operand};
 ghost use Rattle.rv_isa.specs.AsmCode.{line_of, lines_of};
-ghost use Rattle.rv_isa.specs.PlacedCode.{placed_line_of, placed_lines_of, from_of, to_of};
+ghost use Rattle.rv_isa.specs.PlacedCode.{placed_line_of, placed_lines_of};
 ghost use Rattle.rv_isa.specs.Costs.{operation_instructions, move_instructions, tail_call_length, routine_length, action_length, result_moves, line_length, code_length, placed_line_length, placed_code_length};
 ghost use Rattle.rv_isa.specs.ValueBounds.{AreValuesBelow, IsWrittenBelow, AreLinesBelow, HasValuesBelow};
 ghost use Rattle.rv_regs.specs.Relation.{argument_loads, stores_behind, FunctionFewMoves};

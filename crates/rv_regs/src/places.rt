@@ -1,27 +1,15 @@
 // The listings of a point: which values are alive, and where they stand.
 
-ghost use Rattle.std.specs.Prelude.{◌≡◌, ◌↔◌, ◌≢◌, ℕ, IsTrue, List, All};
+ghost use Rattle.std.specs.Prelude.{◌≡◌, ◌↔◌, IsTrue, All};
 ghost use Rattle.rv_isa.specs.declared.placed.Listed.{Listed};
-ghost use Rattle.rv_regs.specs.Listings.{listed_as, is_read_in};
-ghost use Rattle.rv_regs.specs.Conditions.{IsRead, IsWritten, IsListed, IsCopyAt, StandsAt, IsAtPlace, AreApart, Apart};
-ghost use Rattle.rv_regs.specs.Conditions.{IsHandedOut, WriteIsHandedOut, IsInSlot};
+ghost use Rattle.rv_regs.specs.Listings.{is_read_in};
+ghost use Rattle.rv_regs.specs.Conditions.{IsWritten, IsListed, IsCopyAt, StandsAt, IsAtPlace, AreApart, Apart};
 
 use rv_isa::{
     Action, Condition, Immediate, ImmediateOperation, Listed, Operand, Operation, Place, Register,
     RegisterOperation, Routine, ShiftAmount, ShiftOperation,
 };
-
-/// The listing of a value.
-pub fn listing(alive: &[Listed], value: u32) -> Option<Listed>
-    ensures { result ≡ listed_as value alive.now }
-{
-    for listed in alive {
-        if listed.value == value {
-            return Some(*listed);
-        }
-    }
-    None
-}
+use rv_propose::listing;
 
 /// Whether an operand is of the value.
 pub fn is_read(reads: &[Operand], value: u32) -> bool

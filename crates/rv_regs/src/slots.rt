@@ -1,11 +1,10 @@
 // Places of values that have a slot each. A register has a copy of each while a statement reads it, and has it while one writes it.
 
-ghost use Rattle.std.specs.Prelude.{◌≡◌, ◌+◌, ◌<◌, ◌≤◌, ◌++◌, IfOk, length, map};
+ghost use Rattle.std.specs.Prelude.{◌≡◌, ◌+◌, ◌<◌, ◌≤◌, IfOk, length, map};
 ghost use Rattle.std.specs.List.{filter};
 ghost use Rattle.kk_base.specs.Limits.{greatest_of};
 ghost use Rattle.kk_base.specs.declared.limit.LimitKind.TheVariants.{Parameters};
 ghost use Rattle.rv_isa.specs.declared.asm.Action.TheVariants.{Hold};
-ghost use Rattle.rv_isa.specs.Conventions.{argument};
 ghost use Rattle.rv_isa.specs.Frames.{is_among};
 ghost use Rattle.rv_regs.specs.declared.slots.Loaded.{Loaded};
 ghost use Rattle.rv_regs.specs.Plain.{numbered, place_in, copy_in, listings, operand_at, first_register, result_register, load_from, register_args, loaded_for, operands_for, pending, stored_later, copied_in};

@@ -1,6 +1,0 @@
-use Rattle.std.proofs.Common.{◌≡◌, drop}
-use Rattle.rv_regs.specs.Listings.{listed_as}
-use Rattle.rv_regs.proofs.places.listing.Given as goal
-
-abbrev pub invariant-loop-listed : goal.invariant-loop-listed
-invariant-loop-listed l = listed_as l.value (drop l.listed-index l.alive) ≡ listed_as l.value l.alive
