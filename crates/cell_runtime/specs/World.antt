@@ -1,6 +1,6 @@
 -- What the code of a program shares with the outside and with the runtime: the input, the trace and the cells; and what its operations and the
 -- routines of the runtime do to them.
-use Rattle.std.specs.Prelude.{ℕ, ◌+◌, ◌*◌, ◌-◌, ◌^◌, List, [], ◌∷◌, ◌++◌, Option, Some, None, option_map, Bool, false, ◌&&◌, if◌then◌else◌, nat_lt, nat_le}
+use Rattle.std.specs.Prelude.{ℕ, ◌+◌, ◌-◌, ◌^◌, List, [], ◌∷◌, ◌++◌, Option, Some, None, option_map, Bool, false, ◌&&◌, if◌then◌else◌, nat_lt, nat_le}
 use Rattle.kk_base.specs.Trace.{Event, output, input, input_end}
 use Rattle.rv_isa.specs.Arithmetic.{signed}
 use Rattle.rv_isa.specs.Processor.{Ending, exited}

@@ -1,6 +1,6 @@
 //! Where the runtime keeps its data.
 
-ghost use Rattle.std.specs.Prelude.{◌≡◌, ◌+◌, ◌*◌, ◌<◌, ◌≤◌};
+ghost use Rattle.std.specs.Prelude.{◌≡◌, ◌+◌, ◌*◌, ◌≤◌};
 ghost use Rattle.kk_base.specs.Sizes.{greatest_cells, greatest_depth};
 ghost use Rattle.rv_isa.specs.Sizes.{reach_down};
 ghost use Rattle.cell_runtime.specs.Layouts.{below_pointer, layout_of};

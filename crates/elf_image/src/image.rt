@@ -1,4 +1,4 @@
-ghost use Rattle.std.specs.Prelude.{◌≡◌, ◌+◌, ◌%◌, ◌<◌, ◌≤◌, length, IsTrue, IfOk};
+ghost use Rattle.std.specs.Prelude.{◌≡◌, ◌+◌, ◌<◌, ◌≤◌, length, IsTrue, IfOk};
 ghost use Rattle.elf_image.specs.Parts.{are_apart, are_in_reach, are_filled, is_entry, greatest_end};
 ghost use Rattle.elf_image.specs.Program.{text_start, memory_start, greatest_text, program_parts, IsProgramImage};
 

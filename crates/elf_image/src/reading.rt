@@ -1,4 +1,4 @@
-ghost use Rattle.std.specs.Prelude.{◌≡◌, IfOk, IfErr};
+ghost use Rattle.std.specs.Prelude.{IfOk, IfErr};
 ghost use Rattle.elf_image.specs.Loaded.{IsLoaded, IsReason};
 ghost use Rattle.elf_image.specs.Reading.{IsFileHeader, HasLoads, HasSegments};
 

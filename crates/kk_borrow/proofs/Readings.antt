@@ -1,5 +1,5 @@
 -- The rules of an expression, read one part after the other; and what one part more is for a loop over parts.
-use Rattle.std.proofs.Common.{◌≡◌, ◌<◌, ◌+◌, ◌||◌, ◌&&◌, ℕ, Bool, List, ◌∷◌, ◌++◌, map, length, drop, get_or, sym, ap, ◌∙◌, append_assoc}
+use Rattle.std.proofs.Common.{◌≡◌, ◌<◌, ◌+◌, ◌||◌, ◌&&◌, ℕ, Bool, List, ◌++◌, map, length, drop, get_or, sym, ap, ◌∙◌, append_assoc}
 use Rattle.std.proofs.Math.Bool.{or_assoc}
 use Rattle.kk_syntax.specs.declared.program.Expr.{Expr}
 use Rattle.kk_syntax.specs.declared.program.Form.{Form}

@@ -7,7 +7,7 @@ mod scope;
 mod standing;
 mod tail_call;
 
-ghost use Rattle.std.specs.Prelude.{◌≡◌, ◌++◌, ◌∷◌, [], ◌<◌, IfOk, OnOk, map, length};
+ghost use Rattle.std.specs.Prelude.{◌≡◌, ◌++◌, ◌∷◌, [], ◌<◌, IfOk, OnOk, map};
 ghost use Rattle.kk_syntax.specs.PositionsOf.{positions_of};
 ghost use Rattle.kk_syntax.specs.Programs.{ProgramTree, function_tree, program_tree};
 ghost use Rattle.kk_syntax.specs.OwnedPositions.{IsLeast, Told};

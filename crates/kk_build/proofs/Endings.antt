@@ -1,5 +1,5 @@
 -- What a run has come to where it has ended.
-use Rattle.std.proofs.Common.{◌≡◌, ℕ, nat_eq, true, false, Option, Some, refl, arith, subst}
+use Rattle.std.proofs.Common.{◌≡◌, ℕ, nat_eq, true, false, Some, refl, arith, subst}
 use Rattle.std.proofs.lemmas.Bool.Decides.{nat_tests}
 use Rattle.kk_base.specs.Exits.{heap_full_exit, stack_full_exit}
 use Rattle.kk_counted.specs.CountedStates.{CountedControl, running, stopped, stuck, counted_end_at}

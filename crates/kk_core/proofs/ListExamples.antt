@@ -1,6 +1,6 @@
 -- Codes on lists of numbers that the examples share: patterns and decisions, a function with a nested pattern, and codes that make
 -- a list.
-use Rattle.std.proofs.Common.{ℕ, pos, List, [], ◌∷◌, Some, None, refl, arith}
+use Rattle.std.proofs.Common.{ℕ, pos, List, [], ◌∷◌, None, refl, arith}
 use Rattle.kk_syntax.specs.declared.operator.BinaryOperator.TheVariants.{Add}
 use Rattle.kk_syntax.specs.declared.program.Form.TheVariants.{Number, Binary, Construct}
 use Rattle.kk_syntax.specs.Patterns.{Pattern, anything, constructor, no_part, part}

@@ -1,4 +1,4 @@
-ghost use Rattle.std.specs.Prelude.{◌≡◌, vec_len};
+ghost use Rattle.std.specs.Prelude.{◌≡◌};
 ghost use Rattle.kk_core.specs.Decisions.{IsOrderly};
 
 /// What stands at a position of a value, and what a row asks for there.

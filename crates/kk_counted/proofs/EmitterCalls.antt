@@ -18,10 +18,10 @@ use Rattle.kk_counted.specs.CountedCodes.{Counted, tail_call}
 use Rattle.kk_counted.specs.Computing.{CanCompute}
 use Rattle.kk_counted.specs.CountedForms.{reads, dups, drops, plug, last_code, step_move}
 use Rattle.kk_counted.specs.Marks.{CellMarks}
-use Rattle.kk_counted.specs.Spending.{total, AreEven, AllAmong, AreFresh, at_positions, numbers_from, used_by, lent_by, FitsForm}
-use Rattle.kk_counted.specs.Drafts.{minus_all, chosen_of, Split, Draft, outside, all_owed, parameters_where, begun, fallen, given, duplicated, dropped, opened, read_of, computed, forked, entered, entered_in, entered_by, end_code, is_tail, ended_in, ended_by_value, ended_by_call, resumed_as, joined, joined_in, finished, Writes, Awaits, Reaches, IsLentTo, IsAtHand, Owns, OwnsAll, HoldsAll, IsPlain, Takes, used_in, lent_in, LendsAll, IsOnly, IsBetween, AreNewest, IsInArm, EndsByCall}
+use Rattle.kk_counted.specs.Spending.{total, AreEven, AllAmong, AreFresh, at_positions, numbers_from, lent_by}
+use Rattle.kk_counted.specs.Drafts.{minus_all, chosen_of, Split, Draft, outside, all_owed, parameters_where, begun, given, duplicated, dropped, opened, read_of, computed, forked, entered, entered_in, entered_by, end_code, is_tail, ended_in, ended_by_value, ended_by_call, resumed_as, joined, joined_in, finished, Writes, Awaits, IsAtHand, Owns, OwnsAll, HoldsAll, IsPlain, Takes, used_in, lent_in, LendsAll, IsOnly, IsBetween, AreNewest, IsInArm, EndsByCall}
 use Rattle.kk_counted.specs.Emitting.{IsJudged, IsBody, AreLow, Spent, owned_parameters, parameter_count, IsWholeDraft, IsSoundBy, IsSoundDraft, Works, AreIn, AreLater, first, first_of}
-use Rattle.kk_counted.specs.Works.{used_at, lends_at, passes, back_to_front, split_of, draft}
+use Rattle.kk_counted.specs.Works.{used_at, lends_at, passes, back_to_front, split_of}
 use Rattle.kk_counted.proofs.CountChanges.{same}
 use Rattle.kk_counted.proofs.Evenness.{among_front, among_behind, minus_all_even, low_up, low_both, low_numbers, total_append, in_both}
 use Rattle.kk_counted.proofs.Variables.{among_cases}

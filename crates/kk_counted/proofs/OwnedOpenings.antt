@@ -1,7 +1,7 @@
 -- A cell that is opened is owned from outside, where the heap is sound before and behind the opening. So both ways to open it lead
 -- to the same heap.
 use Rattle.std.proofs.Common.{◌≡◌, ℕ, zero, suc, ◌+◌, ◌-◌, ◌≤◌, ◌==◌, Bool, true, false, List, [], ◌∷◌, ◌++◌, Option, Some, None}
-use Rattle.std.proofs.Common.{arith, refl, sym, ap, ◌∙◌, subst}
+use Rattle.std.proofs.Common.{arith, refl, ap, ◌∙◌, subst}
 use Rattle.kk_source.specs.State.{Value, integer, unit, constant, place}
 use Rattle.kk_source.specs.Matching.{and_then}
 use Rattle.kk_counted.specs.Heaps.{Heap, count_at, set_count, fields_held, weight, more, dup_value, dup_all, drop_value, give_up}

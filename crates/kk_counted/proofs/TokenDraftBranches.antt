@@ -1,35 +1,27 @@
 -- What the branches of an emitter of code with tokens change of what it has written leaves it such code.
-use Rattle.std.proofs.Common.{◌≡◌, ℕ, zero, suc, ◌+◌, ◌-◌, ◌<◌, ◌≤◌, ◌==◌, ◌&&◌, ◌||◌, Bool, true, false, not, List, [], ◌∷◌}
-use Rattle.std.proofs.Common.{◌++◌, map, reverse, length, Option, Some, None, arith, refl, sym, ap, ◌∙◌, subst}
-use Rattle.std.specs.Prelude.{if◌then◌else◌, max, option_map, is_some}
-use Rattle.std.proofs.lemmas.Grind.{reverse_onto}
-use Rattle.std.proofs.lemmas.Bool.Decides.{nat_tests}
+use Rattle.std.proofs.Common.{◌≡◌, ℕ, ◌+◌, ◌||◌, Bool, true, false, List, [], ◌∷◌}
+use Rattle.std.proofs.Common.{◌++◌, reverse, length, Option, Some, None, refl, sym, ap, ◌∙◌, subst}
+use Rattle.std.specs.Prelude.{option_map, is_some}
 use Rattle.std.proofs.lemmas.List.{reverse-reverse}
-use Rattle.kk_syntax.specs.Shapes.{is_among, without}
+use Rattle.kk_syntax.specs.Shapes.{is_among}
 use Rattle.kk_core.specs.Decisions.{NodeTree}
-use Rattle.kk_counted.specs.CountedCodes.{Counted, give, tail_call, CountedArms, case, arm}
-use Rattle.kk_counted.specs.CountedForms.{Move, runs, plug, arms_of}
-use Rattle.kk_counted.specs.Spending.{numbers_from}
-use Rattle.kk_counted.specs.TokenedCodes.{Tokened, TokenedArms}
-use Rattle.kk_counted.specs.TokenedForms.{TokenedMove, plug_tokened, tokened_arms}
-use Rattle.kk_counted.specs.TokenSpending.{AreSame, SpendsTokens, SpendAllTokens}
-use Rattle.kk_counted.specs.BareForms.{bare, bare_arms}
-use Rattle.kk_counted.specs.KeptFields.{KnownFields, LeavesKnown, LeaveKnown}
-use Rattle.kk_counted.specs.Drafts.{Split, Draft, copies, forked, entered, entered_in, entered_by, ended_in, more_arms, joined}
-use Rattle.kk_counted.specs.Drafts.{joined_in, resumed_as, IsBetween, AreNewest, IsInArm, Writes, end_code, is_tail}
+use Rattle.kk_counted.specs.CountedCodes.{Counted, give, tail_call}
+use Rattle.kk_counted.specs.CountedForms.{plug}
+use Rattle.kk_counted.specs.TokenedCodes.{Tokened}
+use Rattle.kk_counted.specs.TokenedForms.{plug_tokened}
+use Rattle.kk_counted.specs.TokenSpending.{SpendsTokens}
+use Rattle.kk_counted.specs.BareForms.{bare}
+use Rattle.kk_counted.specs.KeptFields.{KnownFields, LeavesKnown}
+use Rattle.kk_counted.specs.Drafts.{Split, Draft, copies, forked, entered, entered_in, entered_by, ended_in}
+use Rattle.kk_counted.specs.Drafts.{IsBetween, AreNewest, IsInArm, Writes, end_code, is_tail}
 use Rattle.kk_counted.specs.Drafts.{ended_by_value, ended_by_call}
-use Rattle.kk_counted.specs.TokenDrafts.{EndedArm, TokenSplit, TokenDraft, bare_moves, next_slot, tokens_forked, tokens_entered}
-use Rattle.kk_counted.specs.TokenDrafts.{tokens_entered_in, tokens_entered_by, tokens_ended_in, tokened_end, more_ended}
-use Rattle.kk_counted.specs.TokenDrafts.{most_left, above_all, joined_slots, renames, renamed, joined_code, tokens_resumed}
-use Rattle.kk_counted.specs.TokenDrafts.{tokens_joined, tokens_joined_in}
+use Rattle.kk_counted.specs.TokenDrafts.{EndedArm, TokenSplit, TokenDraft, tokens_forked, tokens_entered}
+use Rattle.kk_counted.specs.TokenDrafts.{tokens_entered_in, tokens_entered_by, tokens_ended_in, tokened_end}
 use Rattle.kk_counted.specs.TokenEmitting.{LeadsTokens, AreFalling, known_behind, AllLeave, first_spare, first_known, known_now}
 use Rattle.kk_counted.specs.TokenEmitting.{LeaveNone, IsTokenArm, AreTokenArms, IsTokenSplit, AreTokenSplits, IsTokened}
 use Rattle.kk_counted.specs.TokenEmitting.{KeepsTokens, AreNone, CanEnd, AreNewestTokens}
-use Rattle.kk_counted.specs.Emitting.{AreLow}
 use Rattle.kk_counted.proofs.CaseArms.{copies_length}
-use Rattle.kk_counted.proofs.TokenForms.{among_without}
 use Rattle.kk_counted.proofs.Variables.{right_false}
-use Rattle.kk_counted.proofs.TokenDraftChanges.{bare_more, bare_plug, plug_more, leads_then, append_nil, leaves_plug, leaves_more}
 use Rattle.kk_counted.proofs.TokenDraftChanges.{not_closed}
 
 -- ---- a branch begins

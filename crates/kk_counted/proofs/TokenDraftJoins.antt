@@ -1,16 +1,16 @@
 -- Where a branch is joined, its arms leave tokens in the same slots.
 use Rattle.std.proofs.Common.{◌≡◌, ℕ, zero, suc, ◌+◌, ◌-◌, ◌<◌, ◌≤◌, ◌==◌, ◌&&◌, ◌||◌, Bool, true, false, not, List, [], ◌∷◌}
-use Rattle.std.proofs.Common.{◌++◌, map, reverse, length, Option, Some, None, arith, refl, sym, ap, ◌∙◌, subst}
+use Rattle.std.proofs.Common.{◌++◌, map, reverse, length, Some, arith, refl, sym, ap, ◌∙◌, subst}
 use Rattle.std.specs.Prelude.{if◌then◌else◌, max, option_map}
 use Rattle.std.proofs.lemmas.Grind.{reverse_onto}
 use Rattle.std.proofs.lemmas.Bool.Decides.{nat_tests}
 use Rattle.kk_syntax.specs.Shapes.{is_among, without}
-use Rattle.kk_counted.specs.CountedCodes.{Counted, CountedArms, case, arm}
-use Rattle.kk_counted.specs.CountedForms.{Move, runs, plug, arms_of}
+use Rattle.kk_counted.specs.CountedCodes.{Counted, case, arm}
+use Rattle.kk_counted.specs.CountedForms.{runs, plug, arms_of}
 use Rattle.kk_counted.specs.Spending.{numbers_from}
-use Rattle.kk_counted.specs.TokenedCodes.{Tokened, TokenedArms}
+use Rattle.kk_counted.specs.TokenedCodes.{Tokened}
 use Rattle.kk_counted.specs.TokenedForms.{TokenedMove, plug_tokened, tokened_arms}
-use Rattle.kk_counted.specs.TokenSpending.{AreSame, SpendsTokens, SpendAllTokens}
+use Rattle.kk_counted.specs.TokenSpending.{SpendsTokens, SpendAllTokens}
 use Rattle.kk_counted.specs.BareForms.{bare, bare_arms}
 use Rattle.kk_counted.specs.KeptFields.{KnownFields, LeavesKnown, LeaveKnown}
 use Rattle.kk_counted.specs.Drafts.{Split, Draft, joined, joined_in, resumed_as, IsBetween, AreNewest}
@@ -18,7 +18,7 @@ use Rattle.kk_counted.specs.TokenDrafts.{EndedArm, TokenSplit, TokenDraft, bare_
 use Rattle.kk_counted.specs.TokenDrafts.{joined_slots, renames, renamed, joined_code, tokens_resumed, tokens_joined}
 use Rattle.kk_counted.specs.TokenDrafts.{tokens_joined_in}
 use Rattle.kk_counted.specs.TokenEmitting.{LeadsTokens, AreFalling, known_by, known_behind, AllLeave, first_spare, first_known}
-use Rattle.kk_counted.specs.TokenEmitting.{known_now, IsTokenArm, AreTokenArms, IsTokenSplit, AreTokenSplits, IsTokened}
+use Rattle.kk_counted.specs.TokenEmitting.{IsTokenArm, AreTokenArms, IsTokenSplit, AreTokenSplits, IsTokened}
 use Rattle.kk_counted.specs.TokenEmitting.{KeepsTokens}
 use Rattle.kk_counted.specs.Emitting.{AreLow}
 use Rattle.kk_counted.proofs.CountChanges.{same as equal_slots, itself}

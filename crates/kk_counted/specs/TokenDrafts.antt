@@ -1,10 +1,9 @@
 -- What an emitter has written of a function in code with tokens, and which of its tokens are unspent.
-use Rattle.std.specs.Prelude.{◌≡◌, ℕ, suc, ◌-◌, ◌==◌, ◌&&◌, ◌||◌, max, Bool, true, false, List, [], ◌∷◌, ◌++◌, map, reverse, length, Option, Some, None, option_map, is_some, if◌then◌else◌}
+use Rattle.std.specs.Prelude.{ℕ, suc, ◌-◌, ◌==◌, ◌&&◌, ◌||◌, max, Bool, true, false, List, [], ◌∷◌, ◌++◌, map, reverse, length, Option, Some, None, option_map, is_some, if◌then◌else◌}
 use Rattle.std.specs.Global.{Vec}
 use Rattle.kk_syntax.specs.declared.program.Form.TheVariants.{Construct}
 use Rattle.kk_syntax.specs.Shapes.{without}
 use Rattle.kk_core.specs.Decisions.{NodeTree}
-use Rattle.kk_counted.specs.declared.debts.Owed.{Owed}
 use Rattle.kk_counted.specs.declared.debts.Debts.{Debts}
 use Rattle.kk_counted.specs.declared.debts.Spare.{Spare}
 use Rattle.kk_counted.specs.declared.debts.Held.{Held}

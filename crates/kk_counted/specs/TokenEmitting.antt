@@ -1,5 +1,5 @@
 -- That what an emitter has written in code with tokens spends them, and is without them what it has written in counted code.
-use Rattle.std.specs.Prelude.{◌≡◌, ℕ, ◌||◌, Bool, true, false, List, [], ◌∷◌, Option, Some, None, option_map, is_some, reverse, length, slice_index_or}
+use Rattle.std.specs.Prelude.{◌≡◌, ℕ, ◌||◌, Bool, true, false, List, [], ◌∷◌, Some, None, option_map, is_some, reverse, length, slice_index_or}
 use Rattle.kk_syntax.specs.PositionsOf.{PositionTable}
 use Rattle.kk_syntax.specs.Shapes.{is_among}
 use Rattle.kk_counted.specs.declared.debts.TokenArmEnd.{TokenArmEnd}

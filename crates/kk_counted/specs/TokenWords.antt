@@ -5,7 +5,7 @@ use Rattle.kk_syntax.specs.declared.program.Form.TheVariants.{Construct, Call}
 use Rattle.kk_core.specs.CaseLengths.{tests_length}
 use Rattle.kk_core.specs.CodeNodes.{form_words, reference_length, give_words, tail_call_words, argument_words, case_words, opening_words, opened_field_words}
 use Rattle.kk_counted.specs.CountedCodes.{Counted, give, tail_call, case, compute, inside, read, open_cell, if_unique, dup, drop, CountedArms, no_arm, arm}
-use Rattle.kk_counted.specs.TokenCosts.{openings, openings_of}
+use Rattle.kk_counted.specs.TokenCosts.{openings}
 use Rattle.kk_counted.specs.TokenLengths.{other_length, free_length, move_length}
 
 -- the words of each field that is read and stays in its cell

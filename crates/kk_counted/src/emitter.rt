@@ -1,4 +1,4 @@
-ghost use Rattle.std.specs.Prelude.{◌≡◌, ◌+◌, ◌<◌, ◌∷◌, ◌++◌, [], false, true, map, length, slice_index_or, IfOk, IfErr, OnOk, OnErr};
+ghost use Rattle.std.specs.Prelude.{◌≡◌, ◌+◌, ◌<◌, [], false, true, map, length, slice_index_or, IfOk, IfErr, OnOk, OnErr};
 ghost use Rattle.kk_counted.specs.Drafts.{begun, fallen, given, duplicated, dropped, unpacked, looked, fields_given, computed, Writes, Awaits, Reaches, IsLentTo, IsAtHand, Owns, OwnsAll, HoldsAll, HasConstructor, HasField, HasFields, IsPlain, Takes, used_in, LendsAll};
 ghost use Rattle.kk_counted.specs.InstancePositions.{positions_in, fields_in};
 ghost use Rattle.kk_counted.specs.Emissions.{state};

@@ -1,4 +1,4 @@
-ghost use Rattle.std.specs.Prelude.{◌≡◌, ◌+◌, ◌<◌, ◌≤◌, ◌^◌, Some, None, true, [], ◌∷◌, ◌++◌, map, length, vec_len, vec_capacity, option_map, IfOk, IfErr, OnOk, OnErr};
+ghost use Rattle.std.specs.Prelude.{◌≡◌, ◌+◌, ◌<◌, Some, None, true, [], ◌∷◌, ◌++◌, map, vec_len, vec_capacity, option_map, IfOk, IfErr, OnOk, OnErr};
 ghost use Rattle.kk_counted.specs.CountedForms.{runs, plug, arms_of, step_move, decisions_of, last_code, block_code, reads, dups, drops};
 ghost use Rattle.kk_counted.specs.CountedCodes.{tail_call, case};
 ghost use Rattle.kk_counted.specs.Drafts.{minus, chosen_of, copies, given, wrote, computed, opens_by, opened, read_of, forked, entered, ended_in, ended_by_value, ended_by_call, joined, resumed, more_arms, branch_into, closed_steps, closed_by, closed_body, is_branch};

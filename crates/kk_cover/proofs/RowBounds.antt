@@ -1,6 +1,6 @@
 -- Rows never get more: of a problem with few rows, what it comes down to has few rows too. And each match of an expression has
 -- fewer rows than the expression has nodes.
-use Rattle.std.proofs.Common.{◌≡◌, ◌<◌, ◌≤◌, inl, inr, ℕ, suc, ◌+◌, ◌^◌, ◌==◌, zero, Bool, true, false, cond, List, [], ◌∷◌, ◌++◌, length, map, sym, ap, ◌∙◌, subst, arith}
+use Rattle.std.proofs.Common.{◌≡◌, ◌<◌, ◌≤◌, inl, inr, ℕ, suc, ◌^◌, ◌==◌, zero, Bool, true, false, cond, List, [], ◌∷◌, length, map, sym, ap, ◌∙◌, subst, arith}
 use Rattle.std.proofs.lemmas.List.{length-map}
 use Rattle.kk_syntax.specs.Covered.{Each, asked_by}
 use Rattle.kk_syntax.specs.declared.program.Row.{Row}

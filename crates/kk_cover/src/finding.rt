@@ -1,4 +1,4 @@
-ghost use Rattle.std.specs.Prelude.{◌≡◌, ◌<◌, ◌^◌, [], ◌∷◌, IfOk, length, map};
+ghost use Rattle.std.specs.Prelude.{◌≡◌, ◌<◌, ◌^◌, [], IfOk, length, map};
 ghost use Rattle.kk_cover.specs.Covered.{Answers, row_outlines};
 ghost use Rattle.kk_syntax.specs.Outlines.{no_outline, outline};
 ghost use Rattle.kk_cover.specs.Problems.{problem_view};

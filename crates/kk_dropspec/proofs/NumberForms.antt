@@ -16,7 +16,6 @@ use Rattle.kk_counted.specs.CountedForms.{last_code, block_code, decisions_of}
 use Rattle.kk_counted.specs.Int32.{IsFormInt32, HasInt32, HaveInt32, AreNodesInt32, AllHaveInt32}
 use Rattle.kk_counted.specs.Programs.{function_of}
 use Rattle.kk_counted.proofs.FormViews.{block_is, case_code, step_let}
-use Rattle.kk_dropspec.specs.Specialised.{special, special_function}
 use Rattle.kk_dropspec.specs.Numbers.{IsMoveInt32, AreMovesInt32}
 
 plug_int32 : (moves : List Move) (last : Counted) → AreMovesInt32 moves → HasInt32 last → HasInt32 (plug moves last)

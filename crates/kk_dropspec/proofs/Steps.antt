@@ -1,24 +1,21 @@
 -- Each step of specialised code is that of the code that it is made of.
-use Rattle.std.proofs.Common.{◌≡◌, ℕ, zero, suc, Bool, true, false, List, [], ◌∷◌, ◌++◌, map, length, Option, Some, None, arith}
+use Rattle.std.proofs.Common.{◌≡◌, ℕ, zero, suc, List, ◌∷◌, ◌++◌, map, length, Some, arith}
 use Rattle.std.proofs.Common.{refl, sym, ap, ◌∙◌, subst}
-use Rattle.std.specs.Prelude.{if◌then◌else◌, nat_le, slice_get, option_map}
-use Rattle.std.proofs.lemmas.List.{length-map}
+use Rattle.std.specs.Prelude.{slice_get, option_map}
 use Rattle.std.proofs.lemmas.Option.{slice_get-map}
 use Rattle.kk_syntax.specs.PositionsOf.{PositionTable}
-use Rattle.kk_source.specs.State.{Value, unit, place, Environment, heap_full, stack_full}
+use Rattle.kk_source.specs.State.{Value, place, Environment}
 use Rattle.kk_source.specs.Live.{value_of}
 use Rattle.kk_source.specs.Matching.{and_then}
-use Rattle.kk_source.specs.Actions.{Action, goes, puts, takes, builds, calls, print_step}
-use Rattle.kk_source.specs.FormEffects.{FormEffect, gives, prints, reads, makes, enters, form_effect, effect_step}
-use Rattle.kk_core.specs.CoreMachine.{bind_fields}
+use Rattle.kk_source.specs.FormEffects.{form_effect}
 use Rattle.kk_core.specs.Decisions.{chosen}
 use Rattle.kk_counted.specs.CountedCodes.{Counted, give, tail_call, case, compute, inside, read, open_cell, if_unique, dup, drop}
-use Rattle.kk_counted.specs.CountedCodes.{CountedArms, no_arm, arm, CountedFunction}
-use Rattle.kk_counted.specs.Heaps.{Heap, count_at, cell_at, busy, dup_value, drop_value}
-use Rattle.kk_counted.specs.CountedStates.{CountedSetting, CountedJoin, CountedFrame, CountedConfiguration}
-use Rattle.kk_counted.specs.CountedMachine.{at_counted, bound_then, at_end, with_heap, arm_at, case_step, give_step, in_code}
-use Rattle.kk_counted.specs.CountedMachine.{tail_step, Named, cell_named, used_values, other_values, opened_heap, unique_heap}
-use Rattle.kk_counted.specs.CountedMachine.{open_step, construct_step, call_step, counted_code_step}
+use Rattle.kk_counted.specs.CountedCodes.{CountedArms, no_arm, arm}
+use Rattle.kk_counted.specs.Heaps.{Heap, count_at, cell_at, dup_value, drop_value}
+use Rattle.kk_counted.specs.CountedStates.{CountedSetting, CountedJoin, CountedConfiguration}
+use Rattle.kk_counted.specs.CountedMachine.{arm_at, case_step}
+use Rattle.kk_counted.specs.CountedMachine.{Named, cell_named, used_values, other_values, opened_heap, unique_heap}
+use Rattle.kk_counted.specs.CountedMachine.{counted_code_step}
 use Rattle.kk_counted.specs.References.{refs_of, refs}
 use Rattle.kk_counted.specs.Keeping.{values_of, IsRunning}
 use Rattle.kk_counted.proofs.CountChanges.{refs_append}
@@ -27,7 +24,7 @@ use Rattle.kk_counted.proofs.SoundSteps.{moved, NamedCell, OnNamed, named_cell}
 use Rattle.kk_counted.proofs.SoundRuns.{openings_are_alike}
 use Rattle.kk_dropspec.proofs.ChangedSteps.{changed_action, give_same, tail_same, case_same, row_same, heap_same, open_same}
 use Rattle.kk_dropspec.proofs.ChangedSteps.{open_still, effect_same}
-use Rattle.kk_dropspec.specs.Specialised.{special, special_arms, special_function, special_setting, special_join, special_frame}
+use Rattle.kk_dropspec.specs.Specialised.{special, special_arms, special_function, special_setting, special_join}
 use Rattle.kk_dropspec.specs.Specialised.{special_configuration}
 
 pub arm_same : (arms : CountedArms) (row : ℕ) → arm_at (special_arms arms) row ≡ option_map special (arm_at arms row)

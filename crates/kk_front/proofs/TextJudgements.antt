@@ -1,5 +1,5 @@
 -- What a text comes to, judgement by judgement.
-use Rattle.std.proofs.Common.{◌≡◌, ℕ, ◌*◌, ◌<◌, ◌≤◌, ◌^◌, List, [], ◌∷◌, length, map, get_or, None, Some, false, refl, sym, ap, ◌∙◌, subst, inl, inr, arith, ◌+◌}
+use Rattle.std.proofs.Common.{◌≡◌, ℕ, ◌*◌, ◌<◌, ◌≤◌, ◌^◌, List, [], length, map, get_or, None, Some, false, refl, sym, ap, ◌∙◌, subst, inl, inr, arith, ◌+◌}
 use Rattle.std.specs.Prelude.{All, IfOk, IfErr, OnOk, Result, Ok, Err, slice_get}
 use Rattle.std.proofs.lemmas.Bool.{cases_lt}
 use Rattle.std.proofs.lemmas.List.{length-map, get_or-map}

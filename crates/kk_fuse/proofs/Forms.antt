@@ -6,19 +6,17 @@ use Rattle.std.specs.Global.{Vec}
 use Rattle.std.specs.Prelude.{option_map, if◌then◌else◌}
 use Rattle.kk_syntax.specs.Shapes.{is_among}
 use Rattle.kk_core.specs.declared.decisions.Decisions.{Decisions}
-use Rattle.kk_counted.specs.declared.counted.CountedFun.{CountedFun}
 use Rattle.kk_counted.specs.declared.form.Block.{Block}
 use Rattle.kk_counted.specs.declared.form.Last.{Last}
 use Rattle.kk_counted.specs.declared.form.Last.TheFolds.{fold_out-Last}
 use Rattle.kk_counted.specs.declared.form.Last.TheOpen.{Last-F, Return, TailCall, Case}
 use Rattle.kk_counted.specs.declared.form.Last.TheVariants as OfLast
 use Rattle.kk_counted.specs.declared.form.Step.{Step}
-use Rattle.kk_counted.specs.CountedCodes.{Counted, case, compute, inside, read, open_cell, if_unique, dup, drop as drop_code, arm, CountedFunction}
+use Rattle.kk_counted.specs.CountedCodes.{Counted, case, compute, inside, read, open_cell, if_unique, dup, drop as drop_code, arm}
 use Rattle.kk_counted.specs.CountedForms.{Move, computes, runs, reads, opens, opens_unique, dups, drops, put, plug, arms_of, last_step, step_step, block_step, step_move, last_code, block_code, decisions_of}
-use Rattle.kk_counted.specs.Programs.{function_of}
 use Rattle.kk_counted.proofs.FormViews.{block_is, case_code}
 use Rattle.kk_dropspec.specs.Numbers.{IsMoveInt32, AreMovesInt32}
-use Rattle.kk_fuse.specs.Fused.{is_plain, without_drop, fused_dup, fuse, fuse_arms, fused_function}
+use Rattle.kk_fuse.specs.Fused.{is_plain, without_drop, fused_dup, fuse, fuse_arms}
 use Rattle.kk_fuse.specs.FusedForms.{backwards, drops_it, lets_past, moves_without, put_fused, fused_move, fused_moves}
 use Rattle.kk_fuse.proofs.DropSearch.{backwards_both, backwards_one, backwards_none}
 

@@ -1,23 +1,20 @@
 -- Each step of fused code is that of the code that it is made of, where nothing is pending.
-use Rattle.std.proofs.Common.{◌≡◌, ℕ, zero, suc, Bool, true, false, List, [], ◌∷◌, map, length, Option, Some, None, refl, sym, ap, ◌∙◌}
-use Rattle.std.specs.Prelude.{if◌then◌else◌, nat_le, slice_get, option_map}
-use Rattle.std.proofs.lemmas.List.{length-map}
+use Rattle.std.proofs.Common.{◌≡◌, ℕ, zero, suc, List, map, length, Some, None, refl, sym, ap, ◌∙◌}
+use Rattle.std.specs.Prelude.{slice_get, option_map}
 use Rattle.std.proofs.lemmas.Option.{slice_get-map}
-use Rattle.kk_source.specs.State.{Value, unit, place, Environment, heap_full, stack_full}
+use Rattle.kk_source.specs.State.{Environment}
 use Rattle.kk_source.specs.Live.{value_of}
 use Rattle.kk_source.specs.Matching.{and_then}
-use Rattle.kk_source.specs.Actions.{Action, goes, puts, takes, builds, calls, print_step}
-use Rattle.kk_source.specs.FormEffects.{FormEffect, gives, prints, reads, makes, enters, form_effect, effect_step}
-use Rattle.kk_core.specs.CoreMachine.{bind_fields}
+use Rattle.kk_source.specs.FormEffects.{form_effect}
 use Rattle.kk_core.specs.Decisions.{chosen}
-use Rattle.kk_counted.specs.CountedCodes.{Counted, give, tail_call, case, compute, inside, read, open_cell, if_unique, dup, drop, CountedArms, no_arm, arm, CountedFunction}
-use Rattle.kk_counted.specs.Heaps.{Heap, count_at, cell_at, busy, dup_value, drop_value}
-use Rattle.kk_counted.specs.CountedStates.{CountedSetting, CountedJoin, CountedFrame, CountedControl, CountedConfiguration}
-use Rattle.kk_counted.specs.CountedMachine.{at_counted, bound_then, at_end, with_heap, arm_at, case_step, give_step, in_code, tail_step, Named, cell_named, used_values, other_values, opened_heap, unique_heap, open_step, construct_step, call_step, counted_code_step}
+use Rattle.kk_counted.specs.CountedCodes.{Counted, give, tail_call, case, compute, inside, read, open_cell, if_unique, dup, drop, CountedArms, no_arm, arm}
+use Rattle.kk_counted.specs.Heaps.{count_at, cell_at, dup_value, drop_value}
+use Rattle.kk_counted.specs.CountedStates.{CountedSetting, CountedJoin, CountedControl, CountedConfiguration}
+use Rattle.kk_counted.specs.CountedMachine.{arm_at, case_step, cell_named, used_values, other_values, opened_heap, unique_heap, counted_code_step}
 use Rattle.kk_dropspec.specs.Changed.{changed_control, changed_configuration}
 use Rattle.kk_dropspec.proofs.ChangedSteps.{changed_action, give_same, tail_same, case_same, row_same, heap_same, open_still, effect_same}
 use Rattle.kk_fuse.specs.Fused.{without_drop, fused_dup, fuse, fuse_arms, fused_function, fused_setting}
-use Rattle.kk_fuse.specs.FusedRuns.{fused_join, fused_frame}
+use Rattle.kk_fuse.specs.FusedRuns.{fused_join}
 
 -- ---- a state with fused code
 

@@ -19,7 +19,7 @@ use Rattle.kk_core.specs.Sizes.{below as numbers_below}
 use Rattle.kk_counted.specs.CountedCodes as Counted
 use Rattle.kk_counted.specs.CountedCosts.{form_cost, dup_cost, drop_cost}
 use Rattle.kk_counted.specs.Heaps.{Heap, forwards}
-use Rattle.kk_counted.specs.CountedStates.{CountedSetting, CountedJoin, CountedFrame, CountedState}
+use Rattle.kk_counted.specs.CountedStates.{CountedJoin, CountedFrame, CountedState}
 use Rattle.kk_counted.specs.CountedStates as Final
 use Rattle.kk_counted.specs.References.{refs_of, refs, IsSound, cells_of}
 use Rattle.kk_counted.specs.Spending.{at_positions, numbers_from, left_by, is_owned}

@@ -10,7 +10,7 @@ use Rattle.kk_core.specs.Sizes.{forms, most_forms}
 use Rattle.kk_counted.specs.Heaps.{Heap, forwards}
 use Rattle.kk_counted.specs.CountedCosts.{drop_cost}
 use Rattle.kk_counted.specs.CountedStates as Counted
-use Rattle.kk_counted.specs.CountedStates.{CountedSetting, CountedJoin, CountedFrame, CountedConfiguration, CountedState}
+use Rattle.kk_counted.specs.CountedStates.{CountedJoin, CountedFrame, CountedConfiguration, CountedState}
 use Rattle.kk_counted.specs.References.{refs, IsSound}
 use Rattle.kk_counted.specs.Spending.{AreApart, left_by}
 use Rattle.kk_counted.specs.Keeping.{values_of, AreReached}

@@ -3,7 +3,7 @@ ghost use Rattle.kk_syntax.specs.PositionsOf.{positions_of};
 ghost use Rattle.kk_core.specs.Codes.{computes, uses, unpacks, runs, step_piece, arm_code};
 ghost use Rattle.kk_core.specs.Codes.{block_code as core_block_code, last_code as core_last_code};
 ghost use Rattle.kk_counted.specs.CountedCodes.{case};
-ghost use Rattle.kk_counted.specs.CountedForms.{block_code, last_code, decisions_of, arms_of};
+ghost use Rattle.kk_counted.specs.CountedForms.{block_code, last_code, decisions_of};
 ghost use Rattle.kk_insert.specs.Insertion.{owns, wants, dups, own, insert, dropping};
 ghost use Rattle.kk_insert.specs.Steps.{own_before, insert_before};
 ghost use Rattle.kk_insert.specs.Parts.{own_each, insert_each, part_of, part_in, arm_in};

@@ -1,7 +1,6 @@
 ghost use Rattle.std.specs.Prelude.{◌≡◌, OnOk};
-ghost use Rattle.kk_counted.specs.CountedCodes.{compute, inside};
 ghost use Rattle.kk_counted.specs.CountedForms.{block_code, put, step_move};
-ghost use Rattle.kk_insert.specs.Insertion.{dups, drops, dropping, opening};
+ghost use Rattle.kk_insert.specs.Insertion.{dups, drops, dropping};
 
 use crate::variables::without;
 use kk_base::NoMemory;

@@ -1,5 +1,5 @@
 -- What a text is read as: its tokens, or why it has none.
-use Rattle.std.specs.Prelude.{◌≡◌, ℕ, ◌-◌, List, [], ◌∷◌, ◌++◌, length, take, drop, slice_get, Bool, true, false, not, ◌==◌, ◌||◌, Option, Some, None, Result, Ok, Err}
+use Rattle.std.specs.Prelude.{ℕ, ◌-◌, List, [], ◌∷◌, ◌++◌, length, take, drop, slice_get, Bool, true, false, not, ◌==◌, ◌||◌, Option, Some, None, Result, Ok, Err}
 use Rattle.kk_base.specs.declared.error.LexError.{LexError}
 use Rattle.kk_base.specs.declared.error.LexError.TheVariants as OfLexError
 use Rattle.kk_base.specs.declared.span.Span.{Span}

@@ -1,7 +1,7 @@
 ghost use Rattle.std.specs.Prelude.{◌≡◌, ◌==◌, ℕ, Bool, true, ◌<◌, ◌≤◌, length, IfOk, MatchOption, slice_index, string_bytes};
 ghost use Rattle.std.specs.Bool.{OnTrue};
 ghost use Rattle.std.specs.Char.{IsAsciiLowercase, IsAsciiUppercase};
-ghost use Rattle.std.specs.List.{list_all, prefix_len};
+ghost use Rattle.std.specs.List.{prefix_len};
 ghost use Rattle.std.specs.Str.{IsAscii};
 ghost use Rattle.kk_syntax.specs.declared.token.Keyword.{Keyword};
 ghost use Rattle.kk_lexer.specs.FirstLexemes.{IsFirstLexeme, IsNameOrKeyword};

@@ -1,5 +1,4 @@
-ghost use Rattle.std.specs.Prelude.{◌≡◌, ◌<◌, Bool, true, List, [], ◌∷◌, length, take, slice_index, MatchOption};
-ghost use Rattle.std.specs.Char.{IsAsciiDigit};
+ghost use Rattle.std.specs.Prelude.{◌≡◌, ◌<◌, Bool, true, [], ◌∷◌, length, take, slice_index, MatchOption};
 ghost use Rattle.kk_syntax.specs.declared.token.Symbol.{Symbol};
 ghost use Rattle.kk_lexer.specs.FirstLexemes.{IsFirstLexeme};
 ghost use Rattle.kk_lexer.specs.Fronts.{HasNoFront, IsLongest};

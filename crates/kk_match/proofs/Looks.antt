@@ -1,5 +1,5 @@
 -- Turned nodes look at little on the way to a row: at a position and its edges for each part that is left, and positions are short.
-use Rattle.std.proofs.Common.{◌≡◌, ℕ, zero, suc, ◌+◌, ◌*◌, ◌-◌, ◌<◌, ◌≤◌, nat_eq, Bool, true, false, Option, None, Some, option_map, List, [], ◌∷◌, ◌++◌, length, map, refl, sym, ◌∙◌, subst, arith, length-append}
+use Rattle.std.proofs.Common.{◌≡◌, ℕ, zero, suc, ◌+◌, ◌*◌, ◌-◌, ◌<◌, ◌≤◌, nat_eq, Bool, true, false, Option, None, Some, option_map, List, [], ◌∷◌, ◌++◌, length, map, refl, sym, subst, arith, length-append}
 use Rattle.std.specs.Prelude.{slice_get, sum_by, if◌then◌else◌}
 use lib.Pointwise.{pointwise}
 use Rattle.std.proofs.Math.Nat.{mul-le-mul_right}

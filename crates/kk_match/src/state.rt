@@ -1,4 +1,4 @@
-ghost use Rattle.std.specs.Prelude.{◌≡◌, ◌<◌, map, option_map, slice_index, IfOk, IfSome, MatchOption, IsTrue, None, Some};
+ghost use Rattle.std.specs.Prelude.{◌≡◌, ◌<◌, map, option_map, IfOk, None, Some};
 ghost use Rattle.kk_match.specs.Graphs.{left_after, agrees, after, test_of, row_of};
 ghost use Rattle.kk_match.specs.Views.{part_of, state_tree};
 

@@ -1,4 +1,4 @@
-ghost use Rattle.std.specs.Prelude.{◌≡◌, ℕ, ◌+◌, List, [], ◌++◌, ◌≤◌, length, vec_len, vec_capacity, Option, Some, None, option_map, IfOk};
+ghost use Rattle.std.specs.Prelude.{◌≡◌, ℕ, ◌+◌, [], ◌++◌, ◌≤◌, vec_len, vec_capacity, option_map, IfOk};
 ghost use Rattle.kk_base.specs.Faults.{Counts};
 ghost use Rattle.kk_base.specs.Sink.{taken, put_failed, CutWithin};
 ghost use Rattle.kk_memio.specs.Plan.{unused, is_planned, after_call};

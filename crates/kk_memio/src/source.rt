@@ -1,4 +1,4 @@
-ghost use Rattle.std.specs.Prelude.{◌≡◌, ℕ, List, [], ◌∷◌, false, ◌++◌, ◌<◌, ◌≤◌, length, drop, All, option_map, IfOk};
+ghost use Rattle.std.specs.Prelude.{◌≡◌, ℕ, List, false, ◌++◌, ◌<◌, ◌≤◌, length, drop, All, option_map, IfOk};
 ghost use Rattle.kk_base.specs.Faults.{Counts};
 ghost use Rattle.kk_base.specs.Source.{given, next_failed, EndsAt, KeepsEnd};
 ghost use Rattle.kk_memio.specs.Plan.{unused, is_planned, after_call};

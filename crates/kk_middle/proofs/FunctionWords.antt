@@ -1,9 +1,9 @@
 -- The words of each function of a compiled program, from pass to pass, by the nodes of the body that it is made of.
-use Rattle.std.proofs.Common.{◌≡◌, ◌≤◌, ◌+◌, ◌*◌, ℕ, zero, suc, Bool, false, List, [], ◌∷◌, map, refl, arith}
+use Rattle.std.proofs.Common.{◌≡◌, ◌≤◌, ◌+◌, ℕ, suc, false, List, [], ◌∷◌, map, refl, arith}
 use Rattle.std.proofs.lemmas.Nat.{mul-le}
 use Rattle.kk_syntax.specs.Programs.{FunctionTree}
 use Rattle.kk_syntax.specs.Shapes.{nodes_of}
-use Rattle.kk_core.specs.CodeNodes.{pattern_nodes, other_nodes, plain_words, most_node_words, StandsForNodes, StandForNodes}
+use Rattle.kk_core.specs.CodeNodes.{pattern_nodes, other_nodes, StandsForNodes, StandForNodes}
 use Rattle.kk_core.specs.Codes.{Code, FunctionCode}
 use Rattle.kk_counted.specs.BlockEnds.{EndsWell, AllEndWell}
 use Rattle.kk_counted.specs.CountedCodes.{Counted, CountedFunction}

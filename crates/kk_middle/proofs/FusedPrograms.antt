@@ -1,5 +1,5 @@
 -- Fusion keeps what is kept by code that spends what it owns.
-use Rattle.std.proofs.Common.{◌≡◌, ℕ, ◌*◌, ◌≤◌, List, arith, refl, subst}
+use Rattle.std.proofs.Common.{◌≡◌, ℕ, ◌≤◌, List, arith, refl, subst}
 use Rattle.kk_base.specs.Agreements.{Agree}
 use Rattle.kk_base.proofs.Agreements.{agree_through}
 use Rattle.kk_syntax.specs.PositionsOf.{PositionTable}

@@ -18,7 +18,7 @@ use Rattle.kk_syntax.proofs.Lists.{all_left, all_right}
 use Rattle.kk_syntax.proofs.TailCalls.{inside_push}
 use Rattle.kk_syntax.specs.Shapes.{bound, bound_all, bound_by, is_among, variable_of, Opening, tails_inside, tails_of_rows, tail_walked, tail_walked_rows}
 use Rattle.kk_syntax.specs.Trees.{Tree, variable, apply, branch, match, sequence, Trees, no_tree, tree, Rows, no_row, row, row_parts}
-use Rattle.kk_core.specs.Codes.{Code, give, tail_call, case, compute, use_of, unpack, inside, Arms, no_arm, arm}
+use Rattle.kk_core.specs.Codes.{Code, case, Arms}
 use Rattle.kk_core.specs.Truths.{truth_case}
 use Rattle.kk_norm.specs.Names.{Names, name_of, named}
 use Rattle.kk_norm.specs.Normalized.{size, size_all, pattern_size, part_count, atom, atoms, final, finish, numbers, opened, opened_all, pattern_names, parts_names, IsCode, AreArms}

@@ -1,5 +1,5 @@
 -- Drop specialisation keeps what is kept by code that spends what it owns.
-use Rattle.std.proofs.Common.{◌≡◌, ℕ, ◌*◌, ◌≤◌, List, arith, sym, subst}
+use Rattle.std.proofs.Common.{◌≡◌, ℕ, ◌≤◌, List, arith, sym, subst}
 use Rattle.kk_base.specs.Agreements.{Agree}
 use Rattle.kk_base.specs.Machines.{trace, ending_after}
 use Rattle.kk_syntax.specs.PositionsOf.{PositionTable}

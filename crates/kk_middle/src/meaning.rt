@@ -1,4 +1,4 @@
-ghost use Rattle.std.specs.Prelude.{◌≡◌, ℕ, List};
+ghost use Rattle.std.specs.Prelude.{ℕ, List};
 ghost use Rattle.kk_syntax.specs.Checked.{IsChecked};
 ghost use Rattle.kk_syntax.specs.declared.ground.Ground.{Ground};
 ghost use Rattle.kk_syntax.specs.declared.typed.Typed.{Typed};

@@ -1,4 +1,4 @@
-ghost use Rattle.std.specs.Prelude.{◌≡◌, map, IfOk, OnOk, [], drop, slice_index_or};
+ghost use Rattle.std.specs.Prelude.{◌≡◌, map, IfOk, OnOk, drop, slice_index_or};
 ghost use Rattle.kk_syntax.specs.Trees.{expr_tree, row_tree, statement_tree};
 ghost use Rattle.kk_mono.specs.Labels.{left_in, behind, names, labelled, names_of_each, labelled_each, row_names, labelled_row};
 ghost use Rattle.kk_mono.specs.Labels.{statement_names, labelled_statement, labelled_form, names_of_form, only_constructor};

@@ -2,7 +2,6 @@
 use Rattle.std.proofs.Common.{◌≡◌, ℕ, ◌+◌, ◌<◌, ◌≤◌, max, List, [], ◌∷◌, ◌++◌, length, map, get_or, Option, Some, None, sym, ap, ◌∙◌, subst, arith}
 use Rattle.std.specs.Prelude.{All}
 use Rattle.std.proofs.lemmas.List.Elements.{All-nil, All-cons, All-get_or, All-append}
-use Rattle.kk_syntax.specs.declared.operator.BinaryOperator.{BinaryOperator}
 use Rattle.kk_syntax.specs.declared.program.Expr.{Expr}
 use Rattle.kk_syntax.specs.declared.program.Expr.TheVariants as OfExpr
 use Rattle.kk_syntax.specs.declared.program.Expr.TheFolds.{fold-roll-Expr, fold_out-Row, fold_out-Statement}
@@ -22,7 +21,7 @@ use Rattle.kk_syntax.specs.declared.tree.SurfaceExpr.TheFolds.{fold-roll-Surface
 use Rattle.kk_syntax.specs.declared.tree.SurfaceRow.{SurfaceRow}
 use Rattle.kk_syntax.specs.declared.tree.SurfaceStatement.{SurfaceStatement}
 use Rattle.kk_syntax.specs.Depths.{deepest, body_depth, pattern_depth, patterns_depth, surface_step, surface_row_step, surface_statement_step, surface_depth, surface_row_depth, surface_statement_depth, depth_of_pattern, depth_of_patterns, depth_step, row_depth_step, statement_depth_step, depth_of, depth_of_row, depth_of_statement}
-use Rattle.kk_syntax.specs.Patterns.{Pattern, Patterns, pattern_tree}
+use Rattle.kk_syntax.specs.Patterns.{Patterns, pattern_tree}
 use Rattle.kk_syntax.specs.Surface.{WrittenPattern, anything, pattern_variable, exactly, constructor, WrittenPatterns, no_part, part, written_pattern}
 use Rattle.kk_names.specs.declared.table.Callee.{Callee}
 use Rattle.kk_names.specs.Expressions.{pattern_of, constructed, pattern_meant, parts_meant}

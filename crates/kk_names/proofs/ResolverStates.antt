@@ -3,7 +3,7 @@ use Rattle.std.proofs.Common.{◌≡◌, ℕ, List, [], ◌∷◌, ◌++◌, Opt
 use Rattle.kk_syntax.specs.declared.operator.BinaryOperator.{BinaryOperator}
 use Rattle.kk_syntax.specs.declared.program.Form.TheVariants.{Unit as Nothing, Binary, Construct}
 use Rattle.kk_syntax.specs.Surface as written
-use Rattle.kk_syntax.specs.Surface.{Written, Writtens}
+use Rattle.kk_syntax.specs.Surface.{Written}
 use Rattle.kk_syntax.specs.Trees.{Tree, no_tree, tree, apply, branch}
 use Rattle.kk_names.specs.declared.fault.Fault.{Fault}
 use Rattle.kk_names.specs.declared.resolver.Resolver.{Resolver}

@@ -1,10 +1,10 @@
 //! Which names are in scope: variables of expressions, and type variables.
 
-ghost use Rattle.std.specs.Prelude.{◌≡◌, ◌<◌, length, map, IfOk, IfSome};
+ghost use Rattle.std.specs.Prelude.{◌≡◌, ◌<◌, map, IfOk};
 ghost use Rattle.kk_names.specs.Scopes.{number_in};
 ghost use Rattle.kk_names.specs.Methods.{newest_first};
 ghost use Rattle.kk_syntax.specs.Surface.{types_of, written_type, written_parameter, written_result};
-ghost use Rattle.kk_names.specs.TypeNames.{place_of, with_variable_name, with_variables, with_all_variables, parameter_variables};
+ghost use Rattle.kk_names.specs.TypeNames.{place_of, with_variable_name, with_variables, with_all_variables};
 ghost use Rattle.kk_names.specs.TypeNames.{signature_variables};
 
 use kk_base::{Name, NoMemory};

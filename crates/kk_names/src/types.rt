@@ -1,6 +1,6 @@
 //! The types of a program by their names: those that are there before, and those that it declares.
 
-ghost use Rattle.std.specs.Prelude.{◌≡◌, [], ◌∷◌, ◌++◌, map, length, IfOk, codes};
+ghost use Rattle.std.specs.Prelude.{◌≡◌, [], ◌∷◌, ◌++◌, map, length, IfOk};
 ghost use Rattle.kk_syntax.specs.Programs.{constructor_tree};
 ghost use Rattle.kk_syntax.specs.Surface.{written_constructor, written_declaration, written_parameter};
 ghost use Rattle.kk_names.specs.Faults.{second_names, parameter_faults, field_faults, faults_in_type, faults_in_types};

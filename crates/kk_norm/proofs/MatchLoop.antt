@@ -16,7 +16,7 @@ use Rattle.kk_norm.specs.MatchRows.{gathers_rows, MatchesHaveRows, IsSomeRow, Bo
 use Rattle.kk_norm.proofs.MatchRows.{of_body}
 use Rattle.kk_norm.proofs.WriterLoops.{case_as_value, case_as_end}
 use Rattle.kk_norm.specs.Names.{Names}
-use Rattle.kk_norm.specs.Normalized.{final, next, pattern_size, size, size_rows, atom, opened, pattern_names, patterns_in, IsCode, AreArms}
+use Rattle.kk_norm.specs.Normalized.{final, next, pattern_size, size, size_rows, opened, pattern_names, patterns_in, IsCode, AreArms}
 use Rattle.kk_norm.specs.Written.{names_of, behind, WritesStep, WritesValue, WritesEnd, WritesOpenings, WritesArm, WritesArms, WritesCase}
 
 -- ---- an arm

@@ -1,5 +1,5 @@
 -- The matches of a typed program have rows.
-use Rattle.std.proofs.Common.{List, [], ◌∷◌, ◌++◌}
+use Rattle.std.proofs.Common.{◌++◌}
 use Rattle.kk_syntax.proofs.Elements.{each_parts}
 use Rattle.kk_syntax.proofs.Walks.{typed_gathered}
 use Rattle.kk_syntax.specs.Covered.{Each, IsCovered, asked_by}

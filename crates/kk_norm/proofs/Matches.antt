@@ -1,6 +1,6 @@
 -- The core machine at a match whose scrutinee has its value: it chooses the arm of the source's row, and opens what the row's
 -- pattern opens.
-use Rattle.std.proofs.Common.{◌≡◌, ℕ, suc, ◌+◌, ◌*◌, ◌<◌, ◌≤◌, true, false, List, [], ◌∷◌, map, Option, Some, None, refl, sym, ap, subst, ◌∙◌, arith, add-mul}
+use Rattle.std.proofs.Common.{◌≡◌, ℕ, suc, ◌+◌, ◌*◌, ◌<◌, ◌≤◌, false, List, [], ◌∷◌, map, Option, Some, None, refl, sym, ap, subst, ◌∙◌, arith, add-mul}
 use Rattle.std.specs.Prelude.{slice_get}
 use Rattle.kk_base.specs.Machines.{Machine}
 use Rattle.kk_syntax.specs.Covered.{Each}
@@ -29,7 +29,7 @@ use Rattle.kk_norm.specs.Names.{Names}
 use Rattle.kk_norm.specs.Normalized.{Then, final, next, size, size_rows, pattern_size, pattern_names, opened, atom, within, joined, patterns_in}
 use Rattle.kk_norm.proofs.Bounds.{Bounds, RowsOpenAtMost, of_match}
 use Rattle.kk_norm.proofs.Delivery as Delivery
-use Rattle.kk_norm.proofs.Delivery.{source_at, AtTree, Related}
+use Rattle.kk_norm.proofs.Delivery.{source_at, Related}
 use Rattle.kk_norm.proofs.Openings as Openings
 use Rattle.kk_norm.proofs.Openings.{core_at}
 use Rattle.kk_norm.proofs.RowChoice.{Picked, picks}

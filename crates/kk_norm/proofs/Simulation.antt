@@ -18,7 +18,7 @@ use Rattle.kk_source.specs.FormEffects.{truth, byte_value, FormEffect, gives, pr
 use Rattle.kk_source.specs.SourceAfter.{State}
 use Rattle.kk_source.specs.Step.{bind_parameters, call_frames, lent_places, at_end, at_value, at_new_place, in_body, construct_step, form_step, call_step, push_step}
 use Rattle.kk_source.specs.Matching.{and_then}
-use Rattle.kk_core.specs.Codes.{Code, give, tail_call, Arms, no_arm, arm, FunctionCode, ProgramCode}
+use Rattle.kk_core.specs.Codes.{Code, tail_call, Arms, no_arm, arm, FunctionCode, ProgramCode}
 use Rattle.kk_core.specs.Decisions.{chosen}
 use Rattle.kk_core.specs.Truths.{true_pattern, false_pattern, truth_decisions, truth_case}
 use Rattle.kk_core.specs.CoreStates.{CoreSetting, Join, CallFrame, CoreConfiguration, CoreState}

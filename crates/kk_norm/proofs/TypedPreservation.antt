@@ -1,5 +1,5 @@
 -- The core form of a typed program does what the program does.
-use Rattle.std.proofs.Common.{◌≡◌, ℕ, suc, ◌+◌, ◌-◌, ◌*◌, ◌<◌, ◌≤◌, true, List, ◌∷◌, length, map, Some, refl, ap, subst, ◌∙◌, arith, add-mul, mul-le-mul_right}
+use Rattle.std.proofs.Common.{◌≡◌, ℕ, suc, ◌+◌, ◌-◌, ◌*◌, ◌<◌, ◌≤◌, List, ◌∷◌, length, map, Some, ap, subst, ◌∙◌, arith, add-mul, mul-le-mul_right}
 use Rattle.std.specs.Prelude.{min, slice_get, slice_index_or}
 use Rattle.std.proofs.lemmas.List.{length-map}
 use Rattle.std.proofs.lemmas.Option.{slice_get_within, slice_get-get_or}

@@ -1,4 +1,4 @@
-ghost use Rattle.std.specs.Prelude.{◌≡◌, ◌+◌, ◌<◌, ◌^◌, map, length, IfOk};
+ghost use Rattle.std.specs.Prelude.{◌+◌, ◌<◌, ◌^◌, map, IfOk};
 ghost use Rattle.kk_syntax.specs.Patterns.{pattern_tree};
 ghost use Rattle.kk_syntax.specs.GroundPrograms.{ground_program};
 ghost use Rattle.kk_syntax.specs.Trees.{Tree, expr_tree, trees_of, row_tree, rows_of, statement_tree, block_of};

@@ -1,4 +1,4 @@
-ghost use Rattle.std.specs.Prelude.{◌≡◌, ◌+◌, ◌<◌, ◌^◌, map, IfOk};
+ghost use Rattle.std.specs.Prelude.{◌+◌, ◌<◌, ◌^◌, map, IfOk};
 ghost use Rattle.kk_syntax.specs.Patterns.{pattern_tree, patterns_of, constructor};
 ghost use Rattle.kk_norm.specs.Normalized.{part_count, pattern_size, parts_size};
 ghost use Rattle.kk_norm.specs.Written.{NumbersParts, WritesOpenings, WritesAllOpenings};

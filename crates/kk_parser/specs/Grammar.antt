@@ -1,5 +1,5 @@
 -- The grammar of programs: the right side of each production, and what a text of it means.
-use Rattle.std.specs.Prelude.{ℕ, List, [], ◌∷◌, Option, Some, None}
+use Rattle.std.specs.Prelude.{List, [], ◌∷◌, Option, Some, None}
 use Rattle.std.proofs.Common.{inl, inr}
 use Rattle.kk_syntax.specs.Surface.{Written, number as number_written, unit, variable, call, dot_call, construct, unary, binary, both, either as either_written, print_text, branch, branch_alone, writtens_of, block_of, match as match_written, rows_of, WrittenPattern, anything, pattern_variable, exactly, constructor as constructor_pattern, patterns_of, WrittenType, unit_type, type_variable, named, types_of, WrittenDeclaration, WrittenParameter, type_declaration, function_declaration}
 use Rattle.kk_syntax.specs.declared.token.Keyword.TheVariants.{Fun, Val, Match, If, Then, Elif, Else}

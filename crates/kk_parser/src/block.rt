@@ -1,4 +1,4 @@
-ghost use Rattle.std.specs.Prelude.{◌≡◌, ◌+◌, ◌≤◌, [], ◌∷◌, map, length, IfOk, OnOk};
+ghost use Rattle.std.specs.Prelude.{◌≡◌, ◌+◌, ◌≤◌, map, length, IfOk, OnOk};
 ghost use Rattle.kk_syntax.specs.Surface.{written_statement};
 ghost use Rattle.kk_parser.specs.Classes.{is_at};
 ghost use Rattle.kk_parser.specs.Depths.{IsNoDeeper, StatementsAreNoDeeper};

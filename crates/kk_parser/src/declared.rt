@@ -1,4 +1,4 @@
-ghost use Rattle.std.specs.Prelude.{◌≡◌, ◌≤◌, length, map, IfOk};
+ghost use Rattle.std.specs.Prelude.{◌≤◌, length, map, IfOk};
 ghost use Rattle.kk_syntax.specs.Surface.{written_constructor, written_parameter};
 ghost use Rattle.kk_parser.specs.Depths.{BodyIsNoDeeper};
 ghost use Rattle.kk_parser.specs.Forms.{separated, separated_of, typed, typed_of};

@@ -1,10 +1,10 @@
-ghost use Rattle.std.specs.Prelude.{◌≡◌, ◌+◌, ◌≤◌, [], ◌∷◌, map, length, IfSome, IfOk, OnOk, IsSome};
+ghost use Rattle.std.specs.Prelude.{◌≡◌, ◌+◌, ◌≤◌, map, length, IfSome, IfOk, IsSome};
 ghost use Rattle.kk_syntax.specs.Surface.{written_expr, unit as OfUnit, construct as OfConstruct, writtens_of};
 ghost use Rattle.kk_parser.specs.Classes.{is_at};
 ghost use Rattle.kk_parser.specs.Depths.{IsNoDeeper, AreNoDeeper};
 ghost use Rattle.kk_parser.specs.Forms.{branches, branches_of, in_brackets, inside, spoken as OfSpoken, spoken_of};
 ghost use Rattle.kk_parser.specs.Forms.{printed as OfPrinted, printed_of};
-ghost use Rattle.kk_parser.specs.Grammar.{arguments_of, arguments_given, bracketed, if_of, named_of, print_form, no_arguments};
+ghost use Rattle.kk_parser.specs.Grammar.{arguments_of, arguments_given, bracketed, named_of, no_arguments};
 ghost use Rattle.kk_parser.specs.Grammar.{comparison, comparison_of, sum_operator, sum_operator_of, product_operator};
 ghost use Rattle.kk_parser.specs.Grammar.{product_operator_of, unary_operator, unary_operator_of};
 ghost use Rattle.kk_parser.specs.Kinds.{constructor, name_but_print};

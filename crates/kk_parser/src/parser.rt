@@ -1,4 +1,4 @@
-ghost use Rattle.std.specs.Prelude.{◌≡◌, ℕ, ◌+◌, ◌<◌, ◌≤◌, ◌∷◌, [], length, IsTrue, IfOk, IfErr, OnOk};
+ghost use Rattle.std.specs.Prelude.{◌≡◌, ◌+◌, ◌<◌, ◌≤◌, ◌∷◌, [], length, IsTrue, IfOk, IfErr, OnOk};
 ghost use Rattle.kk_parser.specs.Classes.{is_at, keyword as OfKeyword, symbol as OfSymbol, string as OfString, constructor as OfConstructor, wildcard as OfWildcard};
 ghost use Rattle.kk_parser.specs.Grammar.{semicolons, some_semicolons, print_word, print_form};
 ghost use Rattle.kk_parser.specs.Forms.{print_identifier};

@@ -1,4 +1,4 @@
-ghost use Rattle.std.specs.Prelude.{◌≡◌, ◌-◌, ◌*◌, ◌≤◌, [], length, map, All, IfOk, OnOk, ◌+◌, ◌<◌, ◌∷◌, true, IfSome, OnSome};
+ghost use Rattle.std.specs.Prelude.{◌≡◌, ◌-◌, ◌*◌, ◌≤◌, [], length, map, All, IfOk, ◌<◌, ◌∷◌, true, IfSome, OnSome};
 ghost use Rattle.std.specs.Prelude.{is_some};
 ghost use Rattle.kk_syntax.specs.Surface.{written_declaration, written_expr, written_parameter, written_type, unit_type};
 ghost use Rattle.kk_syntax.specs.WrittenNodes.{nodes_in};
@@ -8,7 +8,7 @@ ghost use Rattle.kk_parser.specs.Forms.{head as OfHead, head_of, in_brackets, in
 ghost use Rattle.kk_parser.specs.Grammar.{parameters as OfParameters, declared_function, function_of as OfFunction, listed};
 ghost use Rattle.kk_parser.specs.Grammar.{listed_of, some_listed, some_listed_of, effects_of, type_of, result as OfResult};
 ghost use Rattle.kk_parser.specs.Grammar.{type_arguments, type_arguments_of};
-ghost use Rattle.kk_parser.specs.Methods.{ReadsPhrase, ReadsFor, ReadsAs, error_for};
+ghost use Rattle.kk_parser.specs.Methods.{ReadsPhrase, ReadsAs, error_for};
 ghost use Rattle.kk_parser.specs.Parses.{AnswersParse, EachListIsParsed, LevelsBoundDepth, OneProgram, in_u32, next_place};
 ghost use Rattle.kk_parser.specs.Phrases.{rule, program as OfProgram, decl as OfDecl, param as OfParam, optional, type as OfType};
 ghost use Rattle.kk_parser.specs.Phrases.{result_type as OfResultType, effect as OfEffect, eff as OfEff};

@@ -1,7 +1,5 @@
 //! The command `bench`: what the run of a generated program takes.
-ghost use Rattle.std.specs.Prelude.{◌≡◌, not, length};
-ghost use Rattle.kk_answer.specs.Line.{summary_line};
-ghost use Rattle.kk_answer.specs.Puts.{Puts};
+ghost use Rattle.std.specs.Prelude.{◌≡◌, length};
 ghost use Rattle.kk_base.specs.Store.{StoreState};
 ghost use Rattle.kk_build.specs.SourceMeaning.{exit_of};
 ghost use Rattle.kk_build.specs.ImageAfter.{ExitsWell};

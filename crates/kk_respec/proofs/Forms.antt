@@ -1,5 +1,5 @@
 -- Respecialised code has the bare form of the code that it is made of, and spends its tokens where that does.
-use Rattle.std.proofs.Common.{◌≡◌, ℕ, zero, suc, List, [], ◌∷◌, map, Some, refl, sym, ap, subst, ◌∙◌}
+use Rattle.std.proofs.Common.{◌≡◌, ℕ, List, [], ◌∷◌, map, Some, refl, sym, ap, ◌∙◌}
 use Rattle.std.specs.Prelude.{slice_get}
 use Rattle.kk_syntax.specs.Shapes.{without}
 use Rattle.kk_syntax.specs.declared.program.Form.TheVariants.{Construct}

@@ -1,18 +1,18 @@
 -- Paired code, step by step.
-use Rattle.std.proofs.Common.{◌≡◌, ◌≤◌, ℕ, zero, suc, ◌+◌, ◌-◌, ◌<◌, Bool, true, false, ◌&&◌, if◌then◌else◌, List, [], ◌∷◌, ◌++◌, map, length, drop, append-nil, refl, sym, ap, ◌∙◌, arith}
+use Rattle.std.proofs.Common.{◌≡◌, ◌≤◌, ℕ, suc, ◌+◌, Bool, true, false, ◌&&◌, if◌then◌else◌, List, [], ◌∷◌, ◌++◌, map, length, drop, append-nil, refl, sym, ap, ◌∙◌, arith}
 use Rattle.std.proofs.Math.Bool.{and-false}
 use Rattle.std.proofs.Math.ListN.{drop_of_length-le}
 use Rattle.kk_syntax.specs.declared.program.Form.{Form}
 use Rattle.kk_counted.specs.declared.form.Block.{Block}
 use Rattle.kk_counted.specs.declared.tokened.TokenedBlock.{TokenedBlock}
 use Rattle.kk_counted.specs.declared.tokened.TokenedStep.{TokenedStep}
-use Rattle.kk_counted.specs.CountedCodes.{Counted, compute, inside, drop as drop_code}
-use Rattle.kk_counted.specs.CountedForms.{Move, computes, runs, reads, opens, opens_unique, dups, drops, put, plug, arms_of, block_code}
+use Rattle.kk_counted.specs.CountedCodes.{Counted, compute, drop as drop_code}
+use Rattle.kk_counted.specs.CountedForms.{Move, computes, runs, reads, opens, opens_unique, dups, drops, put, arms_of, block_code}
 use Rattle.kk_counted.specs.TokenedCodes.{Tokened, TokenedArms}
 use Rattle.kk_counted.specs.TokenedForms.{TokenedMove, put_tokened, put_steps, tokened_arms, tokened_code, tokened_move}
 use Rattle.kk_counted.proofs.TokenedViews.{step_pushed}
-use Rattle.kk_reuse.specs.Following.{may_make, kept, taken}
-use Rattle.kk_reuse.specs.Pairing.{slots_below, frees, holds, unholds, all_taken_back, nulls, moves_up, settled, paired_form, paired, paired_arms}
+use Rattle.kk_reuse.specs.Following.{may_make, taken}
+use Rattle.kk_reuse.specs.Pairing.{slots_below, frees, holds, unholds, all_taken_back, nulls, moves_up, paired_form, paired, paired_arms}
 use Rattle.kk_reuse.specs.PairedForms.{is_call, move_is_call, move_is_drop, leads_to_call, held_before, held_behind, written_form}
 use Rattle.kk_reuse.specs.PairedForms.{paired_block, paired_move, tokens_behind}
 use Rattle.kk_reuse.proofs.TakenBack.{held_still, all_again_held, back_written, call_takes_none, call_paired, held_drop}

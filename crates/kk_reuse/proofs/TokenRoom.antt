@@ -1,12 +1,11 @@
 -- Paired code has room for its tokens. A function has at most as many as openings stand on a path; and on the way to the next form
 -- each is at most taken back, freed or named, and made null or moved.
-use Rattle.std.proofs.Common.{◌≡◌, ◌≤◌, ℕ, zero, suc, ◌+◌, ◌-◌, ◌*◌, Bool, true, false, if◌then◌else◌, List, [], ◌∷◌, map, length, max, Some, refl, subst, arith}
-use Rattle.std.specs.Prelude.{slice_get}
+use Rattle.std.proofs.Common.{◌≡◌, ◌≤◌, ℕ, zero, suc, ◌+◌, ◌-◌, ◌*◌, Bool, true, false, if◌then◌else◌, List, [], ◌∷◌, length, max, refl, subst, arith}
 use Rattle.kk_syntax.specs.declared.program.Form.{Form}
 use Rattle.kk_syntax.specs.declared.program.Form.TheVariants.{Construct, Call}
-use Rattle.kk_counted.specs.CountedCodes.{Counted, give, tail_call, case, compute, inside, read, open_cell, if_unique, dup, drop, CountedArms, no_arm, arm, CountedFunction, CountedProgram}
+use Rattle.kk_counted.specs.CountedCodes.{Counted, give, tail_call, case, compute, inside, read, open_cell, if_unique, dup, drop, CountedArms, no_arm, arm, CountedProgram}
 use Rattle.kk_counted.specs.TokenCosts.{tokens_ahead, room_needed, arms_need_room, HasRoom, openings, openings_of, OpenAtMost}
-use Rattle.kk_counted.specs.TokenedCodes.{Tokened, TokenedFunction}
+use Rattle.kk_counted.specs.TokenedCodes.{Tokened}
 use Rattle.kk_reuse.specs.Following.{makes_cell, may_make, kept, taken, leaves, arms_leave}
 use Rattle.kk_reuse.specs.Pairing.{slots_below, frees, holds, all_taken_back, nulls, moves_up, filled_up, settled, left_by, paired_form, paired, paired_arms, paired_function, paired_program}
 use Rattle.kk_reuse.proofs.TakenBack.{HeldAgain, back_so}

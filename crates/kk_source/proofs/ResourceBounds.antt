@@ -1,17 +1,16 @@
 -- In so many steps a run makes at most as many cells and opens at most as many calls: with more room it never finds its heap or
 -- its stack full.
-use Rattle.std.proofs.Common.{◌≡◌, ◌≤◌, ℕ, zero, suc, ◌+◌, Bool, true, false, List, [], ◌∷◌, ◌++◌, length, Option, Some, None, nat_le, if◌then◌else◌, refl, sym, ap, subst, ◌∙◌, arith, length-append}
+use Rattle.std.proofs.Common.{◌≡◌, ◌≤◌, ℕ, zero, suc, ◌+◌, Bool, true, false, List, [], ◌∷◌, ◌++◌, length, Option, Some, None, nat_le, if◌then◌else◌, refl, sym, ap, subst, arith, length-append}
 use Rattle.std.specs.Prelude.{slice_get}
 use Rattle.kk_base.specs.Machines.{step_unless, state, ending_after}
 use Rattle.kk_syntax.specs.declared.program.Form.{Form}
 use Rattle.kk_syntax.specs.Trees.{Tree, variable, apply, no_tree, tree}
 use Rattle.kk_syntax.specs.Programs.{FunctionTree}
-use Rattle.kk_source.specs.State.{Setting, Value, place, unit, Environment, Frame, arguments, branches, rows, statement, call, End, ended, heap_full, stack_full, Control, expression, value, stopped, Configuration, end_at}
+use Rattle.kk_source.specs.State.{Setting, Value, unit, Environment, Frame, arguments, branches, rows, statement, call, End, ended, heap_full, stack_full, Control, expression, value, stopped, Configuration, end_at}
 use Rattle.kk_source.specs.Live.{held_by_all, live, counted, is_live}
 use Rattle.kk_source.specs.Matching.{Chosen, first_match}
-use Rattle.kk_source.specs.Actions.{Action, goes, builds, calls, WithInput, performed}
 use Rattle.kk_source.specs.FormEffects.{FormEffect, gives, prints, reads, makes, enters, form_effect, effect_step}
-use Rattle.kk_source.specs.Step.{at_value, at_end, at_new_place, in_body, call_frames, construct_step, push_step, call_step, form_step, expression_step, choice_step, value_step, step_at, step_of}
+use Rattle.kk_source.specs.Step.{at_value, at_end, at_new_place, call_frames, construct_step, push_step, call_step, form_step, expression_step, choice_step, value_step, step_at, step_of}
 use Rattle.kk_source.specs.SourceAfter.{State, step, ending_of, store_machine, first_state, HasRoom}
 use Rattle.kk_source.proofs.RunInvariants.{LeadsTo, print_leads, performed_keeps}
 

@@ -1,10 +1,10 @@
 -- A run goes as far as the run without limits, and does the same.
-use Rattle.std.proofs.Common.{◌≡◌, ◌≤◌, ℕ, ◌+◌, List, Some, sym, ap, ◌∙◌, subst, arith}
+use Rattle.std.proofs.Common.{◌≡◌, ℕ, ◌+◌, List, Some, sym, ap, ◌∙◌, subst, arith}
 use Rattle.kk_base.specs.Trace.{IsPrefix}
 use Rattle.kk_base.proofs.Agreements.{prefix_through}
 use Rattle.kk_base.proofs.Machines.{trace_grows, ending_stays, trace_stays}
 use Rattle.kk_source.specs.State.{Setting, ended}
-use Rattle.kk_source.specs.SourceAfter.{source_machine, first_state, After, source_after, unlimited_after, HasRoom}
+use Rattle.kk_source.specs.SourceAfter.{source_machine, first_state, source_after, unlimited_after, HasRoom}
 use Rattle.kk_source.proofs.Laws.{seen_ending, longer_trace, same_with_room}
 use Rattle.kk_source.proofs.ResourceBounds.{has_room}
 

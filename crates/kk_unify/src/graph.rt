@@ -1,4 +1,4 @@
-ghost use Rattle.std.specs.Prelude.{◌≡◌, ◌+◌, ◌^◌, ◌≤◌, ◌<◌, ℕ, [], ◌∷◌, ◌++◌, length, IfOk, MatchBool, MatchOption};
+ghost use Rattle.std.specs.Prelude.{◌≡◌, ◌+◌, ◌^◌, ◌≤◌, ◌<◌, [], ◌∷◌, ◌++◌, length, IfOk, MatchBool, MatchOption};
 ghost use Rattle.std.proofs.Props.{props};
 ghost use Rattle.kk_unify.specs.Graphs.{IsFormed, IsNodeFormed};
 ghost use Rattle.kk_unify.specs.NodesOf.{node_tree, node_trees, added_node, IsNodeFormed-prop};
@@ -22,7 +22,6 @@ pub struct Graph {
 }
 
 impl Graph {
-    ghost use Rattle.kk_syntax.specs.Types.{unit_type};
     ghost use Rattle.kk_unify.specs.Graphs.{Adds, Joins, Clashes, NoneObeys};
     ghost use Rattle.kk_unify.specs.GraphOf.{graph_of, variables_of, type_by, IsAddable};
     ghost use Rattle.kk_unify.specs.Solutions.{Solves};

@@ -1,4 +1,4 @@
-ghost use Rattle.std.specs.Prelude.{◌≡◌, ◌<◌, ◌+◌, ◌≤◌, ◌++◌, ◌⊎◌, ℕ, [], length, IfOk, MatchBool};
+ghost use Rattle.std.specs.Prelude.{◌≡◌, ◌<◌, ◌+◌, ◌++◌, ◌⊎◌, length, IfOk, MatchBool};
 ghost use Rattle.std.specs.List.{zip};
 ghost use Rattle.kk_unify.specs.NodesOf.{node_tree, node_trees};
 ghost use Rattle.kk_unify.specs.Graphs.{Joins, Clashes};

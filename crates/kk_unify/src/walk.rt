@@ -1,4 +1,4 @@
-ghost use Rattle.std.specs.Prelude.{◌≡◌, ◌≢◌, ◌<◌, ◌≤◌, ◌+◌, ◌^◌, ◌++◌, ◌∷◌, [], ℕ, List, length, map, replicate, slice_set, All, IfOk, MatchOption, MatchBool};
+ghost use Rattle.std.specs.Prelude.{◌≡◌, ◌<◌, ◌≤◌, ◌+◌, ◌^◌, ◌∷◌, [], ℕ, List, length, map, replicate, All, IfOk, MatchOption, MatchBool};
 ghost use Rattle.kk_syntax.specs.Types.{TypeTree, type_at};
 ghost use Rattle.kk_syntax.specs.TypedPrograms.{type_of_node};
 ghost use Rattle.kk_unify.specs.Graphs.{NoneObeys};

@@ -1,6 +1,6 @@
 // The lines of the forms that touch cells.
 
-ghost use Rattle.std.specs.Prelude.{◌≡◌, ◌+◌, ◌*◌, ◌==◌, true, false, map, not, filter, position, IfOk, IfSome, OnOk};
+ghost use Rattle.std.specs.Prelude.{◌≡◌, ◌+◌, ◌*◌, ◌==◌, false, map, not, filter, position, IfOk, IfSome, OnOk};
 ghost use Rattle.kk_syntax.specs.Shapes.{is_among};
 ghost use Rattle.rv_lower.specs.Written.{short_line, Wrote, WroteLines};
 ghost use Rattle.rv_cells.specs.CellLines.{Loads, Stores, AllLoads, AllStores, dup_lines, drop_lines, dups_lines, drops_lines};

@@ -1,6 +1,6 @@
 // The marks of parameters, of fields, and of the values of forms.
 
-ghost use Rattle.std.specs.Prelude.{◌≡◌, map, OnOk, IfOk, [], ◌∷◌};
+ghost use Rattle.std.specs.Prelude.{◌≡◌, map, OnOk, IfOk, []};
 ghost use Rattle.kk_counted.specs.Marks.{parameter_marks, result_mark, field_marks, made_mark};
 ghost use Rattle.rv_cells.specs.Marking.{marked, all_marked, mark_of_form, mark_given, marks_behind, marks_behind_arms};
 ghost use Rattle.rv_cells.specs.Marking.{function_marks};

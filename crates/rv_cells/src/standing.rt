@@ -1,6 +1,6 @@
 // What stands in the cells of a function's tokens: words that a construction in such a cell need not store.
 
-ghost use Rattle.std.specs.Prelude.{◌≡◌, ◌&&◌, not, map, ◌+◌, ◌*◌, IfOk};
+ghost use Rattle.std.specs.Prelude.{◌≡◌, ◌&&◌, map, ◌+◌, ◌*◌, IfOk};
 ghost use Rattle.kk_counted.specs.TokenedForms.{tokened_code, tokened_last_code, tokened_move, tokened_arms};
 ghost use Rattle.rv_cells.specs.TokenedLines.{count_stands, header_stands, Keeps, values_of_slots};
 ghost use Rattle.rv_cells.specs.Standings.{is_of, calls_none, holds_none, keeps_in, keeps_in_arms, keeps_step, keeps_steps};

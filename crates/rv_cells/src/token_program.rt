@@ -1,6 +1,6 @@
 // The assembler code of programs with tokens.
 
-ghost use Rattle.std.specs.Prelude.{map, IfOk, ◌≡◌, max, suc};
+ghost use Rattle.std.specs.Prelude.{map, IfOk, ◌≡◌, max};
 ghost use Rattle.kk_counted.specs.BareForms.{bare_function};
 ghost use Rattle.kk_counted.specs.Lowerable.{AreLowerable};
 ghost use Rattle.kk_counted.specs.TokenLowerable.{AreTokensLowerable, slots_of, slots_in, slots_in_arms};

@@ -1,7 +1,7 @@
 // Arithmetic on words, signed numbers in two's complement.
 
 ghost use Rattle.std.specs.Prelude.{◌≡◌};
-ghost use Rattle.rv_isa.specs.Arithmetic.{shift_left, shift_right_logical, shift_right_arithmetic, upper_signed, upper_signed_unsigned, upper_unsigned, quotient_signed, quotient_unsigned, remainder_signed, remainder_unsigned, bit_of};
+ghost use Rattle.rv_isa.specs.Arithmetic.{shift_left, shift_right_logical, shift_right_arithmetic, upper_signed, upper_signed_unsigned, upper_unsigned, quotient_signed, quotient_unsigned, remainder_signed, remainder_unsigned};
 
 // The shifts take the lower five bits of the amount.
 

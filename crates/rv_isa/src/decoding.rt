@@ -1,6 +1,6 @@
 // From words to instructions.
 
-ghost use Rattle.std.specs.Prelude.{◌≡◌, ℕ, ◌*◌, ◌+◌, ◌<◌, ◌↔◌, ◌^◌, Some, IsNone};
+ghost use Rattle.std.specs.Prelude.{◌≡◌, ◌*◌, ◌+◌, ◌<◌, ◌↔◌, ◌^◌, Some, IsNone};
 ghost use Rattle.rv_isa.specs.Field.{field};
 ghost use Rattle.rv_isa.specs.Extension.{extended};
 ghost use Rattle.rv_isa.specs.Read.{rd_at, rs1_at, rs2_at, shamt_at, i_immediate, s_immediate, b_immediate, u_immediate, j_immediate, branch_of, load_of, store_of, immediate_operation_of, shift_of, operation_of, read};

@@ -3,7 +3,7 @@
 ghost use Rattle.std.specs.Prelude.{◌≡◌, ◌++◌, ◌⊎◌, ◌≤◌, [], IfOk, OnOk, drop, length, map, None};
 ghost use Rattle.rv_isa.specs.Costs.{placed_functions_length};
 ghost use Rattle.rv_isa.specs.PlacedCode.{does, placed_line_of, placed_lines_of, placed_functions, placed_natives, placed_memory, placed_constants};
-ghost use Rattle.rv_loops.specs.Rotation.{mark, leaves, goes_on, rotated_line, rotated_code, IsRotated, AreRotated};
+ghost use Rattle.rv_loops.specs.Rotation.{rotated_line, rotated_code, IsRotated, AreRotated};
 ghost use Rattle.rv_loops.specs.Heads.{loop_of};
 
 use crate::head::{AGAIN, Head, add_copies, has_label, is_call_of};

@@ -1,6 +1,6 @@
 // The assembler code of a function as it is written.
 
-ghost use Rattle.std.specs.Prelude.{◌≡◌, ◌+◌, [], ◌∷◌, map, OnOk, IfOk, length};
+ghost use Rattle.std.specs.Prelude.{◌≡◌, ◌+◌, [], ◌∷◌, map, OnOk, IfOk};
 ghost use Rattle.rv_lower.specs.Lines.{copies, temporaries, computes, sets, copies_to, registers, acts};
 ghost use Rattle.rv_lower.specs.Written.{short_line, Wrote, AddedText, TookLabel, read_list};
 ghost use Rattle.rv_isa.specs.declared.asm.Action.TheVariants.{Compute};

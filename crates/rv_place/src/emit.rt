@@ -8,7 +8,7 @@ ghost use Rattle.rv_isa.specs.declared.instr.Instr.TheVariants.{Addi};
 ghost use Rattle.rv_place.specs.declared.reach.Reach.TheVariants.{Near, Far, Wide};
 ghost use Rattle.rv_isa.specs.FrameSizes.{slots_of_place};
 ghost use Rattle.rv_place.specs.Addresses.{slot_offset, way_offset, branch_words, jump_words, entry_words, test_words, frame_bias, greatest_frame, words_of_shift, words_to_frame};
-ghost use Rattle.rv_place.specs.Registers.{zero_register, ra, sp};
+ghost use Rattle.rv_place.specs.Registers.{sp};
 ghost use Rattle.rv_place.specs.Instructions.{LoadsWord, SetsWord, words_of_constant, words_of_jump, words_of_branch, JumpsBy, JumpsTo, CallsTo, BranchesOn, branch_instruction};
 ghost use Rattle.rv_place.specs.Texts.{greatest_address};
 ghost use Rattle.rv_place.specs.Lines.{IsFromPointer, ShiftsStack, GoesBack, FindsFrame, frame_register};

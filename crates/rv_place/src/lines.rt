@@ -1,12 +1,11 @@
 // Lines and functions as instructions.
 
-ghost use Rattle.std.specs.Prelude.{◌≡◌, ℕ, ◌+◌, ◌*◌, ◌^◌, ◌<◌, ◌≤◌, Some, OnOk, length, map, slice_get};
+ghost use Rattle.std.specs.Prelude.{◌≡◌, ◌+◌, ◌*◌, ◌<◌, ◌≤◌, OnOk, length, map};
 ghost use Rattle.elf_image.specs.Program.{text_start};
 ghost use Rattle.rv_isa.specs.Costs.{placed_code_length, placed_functions_length};
 ghost use Rattle.rv_isa.specs.PlacedCode.{placed_line_of, placed_lines_of};
-ghost use Rattle.rv_isa.specs.PlacedMachine.{is_label_line};
 ghost use Rattle.rv_isa.specs.FrameSizes.{slots_of_operands, slots_of_line, slots_of_lines, slots_of_functions};
-ghost use Rattle.rv_place.specs.Addresses.{is_silent, words_of_action, words_of_line, words_of_lines, words_of_function, words_of_functions, most_entry_words, label_address, greatest_frame};
+ghost use Rattle.rv_place.specs.Addresses.{is_silent, words_of_action, words_of_line, words_of_lines, words_of_function, words_of_functions, most_entry_words, greatest_frame};
 ghost use Rattle.rv_place.specs.Texts.{most_text_length, most_functions, most_runtime_words, greatest_address};
 ghost use Rattle.rv_place.specs.Emitted.{Grew, ActionBy, LineBy, LinesBy, FunctionBy, FunctionsBy};
 

@@ -1,9 +1,9 @@
 // The whole text.
 
-ghost use Rattle.std.specs.Prelude.{◌≡◌, ◌+◌, ◌*◌, ◌^◌, ◌<◌, ◌≤◌, [], ◌∷◌, IfOk, OnOk, length, map};
+ghost use Rattle.std.specs.Prelude.{◌≡◌, ◌+◌, ◌*◌, ◌<◌, ◌≤◌, [], ◌∷◌, IfOk, OnOk, length, map};
 ghost use Rattle.elf_image.specs.Program.{text_start};
 ghost use Rattle.rv_isa.specs.Costs.{placed_functions_length};
-ghost use Rattle.rv_isa.specs.PlacedCode.{placed_lines_of, placed_functions, placed_natives};
+ghost use Rattle.rv_isa.specs.PlacedCode.{placed_lines_of, placed_natives};
 ghost use Rattle.cell_runtime.specs.Operations.{all_bytes};
 ghost use Rattle.cell_runtime.specs.Lines.{Spells, words_of};
 ghost use Rattle.rv_place.specs.Addresses.{entries_from, frames_taken};

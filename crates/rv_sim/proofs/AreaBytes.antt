@@ -1,5 +1,5 @@
 -- What is read from an area is what the memory holds there, and what is put in one is what the memory then holds.
-use Rattle.std.proofs.Common.{◌≡◌, ◌<◌, ℕ, ◌+◌, ◌-◌, List, map, length, get_or, set, take, drop, ◌++◌, slice_range, Bool, true, false, ◌&&◌, if◌then◌else◌, Some, inl, inr, refl, sym, ap, ◌∙◌}
+use Rattle.std.proofs.Common.{◌≡◌, ◌<◌, ℕ, ◌+◌, ◌-◌, List, map, length, get_or, set, take, drop, ◌++◌, slice_range, Bool, true, false, if◌then◌else◌, Some, inl, inr, refl, sym, ap, ◌∙◌}
 use Rattle.std.proofs.lemmas.List.{get_or-map, map-set}
 use Rattle.std.proofs.Math.ListN.{length-map}
 use Rattle.std.proofs.Math.Seq.{map-set_same}

@@ -1,6 +1,5 @@
 -- Each call of the environment is a run of one step.
-use Rattle.std.proofs.Common.{◌≡◌, ◌≢◌, ◌≤◌, ◌<◌, ℕ, ◌+◌, ◌%◌, List, [], ◌∷◌, ◌++◌, All, map, take, length, true, false, Option, Some, None, option_map, refl, sym, ap, subst, ◌∙◌, arith, append-nil}
-use Rattle.std.proofs.lemmas.List.Elements.{All-nil}
+use Rattle.std.proofs.Common.{◌≡◌, ◌≢◌, ◌≤◌, ◌<◌, ℕ, ◌+◌, ◌%◌, List, [], ◌∷◌, ◌++◌, All, map, take, length, true, false, Some, option_map, refl, sym, ap, subst, ◌∙◌, arith, append-nil}
 use Rattle.kk_base.specs.Memory.{Part, byte_loaded}
 use Rattle.kk_base.specs.Source.{SourceState}
 use Rattle.kk_base.specs.Sink.{SinkState}
@@ -17,7 +16,7 @@ use Rattle.rv_sim.specs.Registers.{registers_of}
 use Rattle.rv_sim.specs.Simulation.{Simulation, processor_of, progress_of}
 use Rattle.rv_sim.specs.declared.halt.Turn.TheVariants.{Over}
 use Rattle.rv_sim.specs.declared.halt.Halt.TheVariants.{InputFault, OutputFault}
-use Rattle.rv_sim.specs.Devices.{halt_of, GivesContent, GivesEvents, asked, HasRun}
+use Rattle.rv_sim.specs.Devices.{halt_of, GivesEvents, asked, HasRun}
 use Rattle.rv_sim.proofs.Events.{GivesEvents-none, held-none, gives_byte, gives_none, gives_end, gives_put}
 use Rattle.rv_sim.proofs.InstructionSteps.{can_load-bare, can_store-bare, does-same}
 use Rattle.rv_sim.proofs.Turns.{HasRun-one, HasRun-quiet, HasRun-failed}

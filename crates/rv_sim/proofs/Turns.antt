@@ -1,5 +1,5 @@
 -- One instruction is a run of one step, also where a device fails at it.
-use Rattle.std.proofs.Common.{◌≡◌, ℕ, ◌+◌, ◌-◌, List, [], ◌++◌, true, false, Option, option_map, refl, sym, ap, ◌∙◌, arith, append-nil}
+use Rattle.std.proofs.Common.{◌≡◌, ℕ, ◌+◌, ◌-◌, List, [], ◌++◌, true, false, option_map, refl, sym, ap, ◌∙◌, arith, append-nil}
 use Rattle.kk_base.specs.Source.{SourceState}
 use Rattle.kk_base.specs.Sink.{SinkState}
 use Rattle.kk_base.specs.Trace.{Event, output_of, TakesFrom}

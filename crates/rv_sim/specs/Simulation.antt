@@ -1,5 +1,5 @@
 -- What a simulated machine holds, and the machine that it is.
-use Rattle.std.specs.Prelude.{◌≡◌, ℕ, List, map, Bool}
+use Rattle.std.specs.Prelude.{ℕ, List, map, Bool}
 use Rattle.kk_base.specs.Memory.{Part, byte_loaded}
 use Rattle.kk_base.specs.Trace.{Event}
 use Rattle.rv_isa.specs.Processor.{Processor, bare, Ending, going, exited, trapped, Progress}

@@ -1,4 +1,4 @@
-ghost use Rattle.std.specs.Prelude.{◌≡◌, ℕ, ◌+◌, ◌-◌, ◌^◌, ◌≤◌, ◌<◌, ◌++◌, take, drop, true, IsTrue, IfOk, replicate, length, slice_range};
+ghost use Rattle.std.specs.Prelude.{◌≡◌, ◌+◌, ◌-◌, ◌^◌, ◌≤◌, ◌<◌, ◌++◌, take, drop, true, IfOk, replicate, length, slice_range};
 ghost use Rattle.kk_base.specs.Memory.{covers};
 
 use elf_image::Part;

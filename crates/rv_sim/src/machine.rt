@@ -1,4 +1,4 @@
-ghost use Rattle.std.specs.Prelude.{◌≡◌, ℕ, ◌+◌, ◌*◌, ◌%◌, ◌<◌, ◌≤◌, ◌^◌, List, [], length, true, false, Option, IfOk, Some, None, if◌then◌else◌, ◌&&◌, ◌==◌};
+ghost use Rattle.std.specs.Prelude.{◌≡◌, ℕ, ◌+◌, ◌%◌, ◌<◌, ◌≤◌, ◌^◌, List, [], length, true, false, Option, IfOk, Some, None, if◌then◌else◌, ◌&&◌, ◌==◌};
 ghost use Rattle.std.specs.Bool.{then_some};
 ghost use Rattle.kk_base.specs.Faults.{Rises};
 ghost use Rattle.kk_base.specs.Memory.{byte_loaded};

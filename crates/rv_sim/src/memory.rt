@@ -1,4 +1,4 @@
-ghost use Rattle.std.specs.Prelude.{◌≡◌, ℕ, ◌^◌, ◌<◌, ◌∷◌, [], List, length, map, true, false, is_some, IfSome, IfNone, IfOk, IsTrue, Some, None, if◌then◌else◌, HoldsAt, position};
+ghost use Rattle.std.specs.Prelude.{◌≡◌, ◌^◌, ◌<◌, ◌∷◌, [], List, length, map, true, false, is_some, IfSome, IfOk, IsTrue, Some, None, if◌then◌else◌, HoldsAt, position};
 ghost use Rattle.std.specs.Bool.{OnTrue, OnFalse};
 ghost use Rattle.kk_base.specs.Memory.{covers, byte_loaded};
 ghost use Rattle.rv_isa.specs.Bytes.{little_endian, number_at, bytes_at, with_number, with_bytes};

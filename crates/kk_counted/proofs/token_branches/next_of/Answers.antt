@@ -1,4 +1,4 @@
-use Rattle.std.proofs.Common.{◌≡◌, ℕ, List, [], ◌∷◌, ◌++◌, take, ◌-◌, sym, ap, ◌∙◌}
+use Rattle.std.proofs.Common.{◌≡◌, ℕ, List, [], ◌∷◌, sym, ap, ◌∙◌}
 use Rattle.kk_counted.specs.Works.{items_of, left_in}
 use Rattle.kk_counted.proofs.DraftChanges.{back_more, none_taken}
 use Rattle.kk_counted.proofs.token_branches.next_of.Goals as goal

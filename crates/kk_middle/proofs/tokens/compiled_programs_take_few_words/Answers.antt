@@ -1,4 +1,4 @@
-use Rattle.std.proofs.Common.{◌≡◌, ◌≤◌, ◌+◌, List, map, false, sym, ap, subst, ◌∙◌, arith}
+use Rattle.std.proofs.Common.{List, map, false, sym, ap, subst, arith}
 use Rattle.kk_syntax.specs.GroundPrograms.{ground_program}
 use Rattle.kk_syntax.specs.GroundTyping.{table_of}
 use Rattle.kk_syntax.specs.PositionsOf.{PositionTable}
@@ -6,16 +6,12 @@ use Rattle.kk_syntax.specs.Programs.{ProgramTree}
 use Rattle.kk_core.specs.Codes.{ProgramCode, core_code}
 use Rattle.kk_counted.specs.CountedCodes.{Counted, CountedFunction}
 use Rattle.kk_counted.specs.Programs.{function_of}
-use Rattle.kk_counted.specs.TokenWords.{code_words, token_words}
 use Rattle.kk_counted.specs.TokenedCodes.{TokenedFunction, TokenedProgram}
 use Rattle.kk_insert.specs.Insertion.{inserted}
-use Rattle.kk_dropspec.specs.Specialised.{special, special_function}
-use Rattle.kk_fuse.specs.Fused.{fused_function}
 use Rattle.kk_reuse.specs.Pairing.{paired_function}
 use Rattle.kk_respec.specs.Respecialised.{respecialised_function}
 use Rattle.kk_middle.specs.Compiled.{instance_positions}
 use Rattle.kk_middle.specs.FunctionWords.{HaveFewWords}
-use Rattle.kk_middle.specs.TokenLowerings.{tokened_of}
 use Rattle.kk_middle.proofs.FunctionWords.{functions_few}
 use Rattle.kk_norm.proofs.Within.{instances_are_within}
 use Rattle.kk_middle.proofs.tokens.compiled_programs_take_few_words.Goals as goal

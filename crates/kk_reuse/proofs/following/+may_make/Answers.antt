@@ -1,5 +1,5 @@
 use Rattle.std.proofs.Common.{map, ap, sym, ◌∙◌}
-use Rattle.kk_counted.specs.CountedForms.{last_code, step_move}
+use Rattle.kk_counted.specs.CountedForms.{step_move}
 use Rattle.kk_reuse.specs.Following.{may_make}
 use Rattle.kk_reuse.specs.PairedForms.{moves_may_make}
 use Rattle.kk_reuse.proofs.Walks.{block_may_make}

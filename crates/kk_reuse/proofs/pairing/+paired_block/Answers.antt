@@ -1,8 +1,8 @@
-use Rattle.std.proofs.Common.{◌≡◌, ◌+◌, ◌<◌, true, map, length, drop, get_or, [], ◌++◌, ap, arith, refl, subst, sym, ◌∙◌}
-use Rattle.kk_counted.specs.CountedForms.{block_code, last_code, step_move}
+use Rattle.std.proofs.Common.{◌+◌, ◌<◌, true, map, length, drop, get_or, ap, subst, ◌∙◌}
+use Rattle.kk_counted.specs.CountedForms.{block_code, step_move}
 use Rattle.kk_counted.specs.TokenedForms.{TokenedMove}
 use Rattle.kk_reuse.specs.PairedForms.{moves_may_make, stay_held}
-use Rattle.kk_reuse.proofs.Steps.{arms_paired, arms_written}
+use Rattle.kk_reuse.proofs.Steps.{arms_written}
 use Rattle.kk_reuse.proofs.WrittenSteps.{block_begun, block_written, drop_written, dup_written, if_unique_written, inside_written, left_of_none, left_of_some, one_written, open_written, read_written, to_end}
 use Rattle.kk_reuse.proofs.pairing.+paired_block.Goals as goal
 use Rattle.kk_reuse.proofs.pairing.+paired_block.Goals.{paired_inside-then-makes+in_ok-left, paired_inside-else-makes}

@@ -1,4 +1,4 @@
-use Rattle.std.proofs.Common.{◌+◌, ap, arith, refl, sym, ◌∙◌}
+use Rattle.std.proofs.Common.{◌+◌, ap, refl, sym, ◌∙◌}
 use Rattle.kk_counted.specs.TokenedCodes.{Tokened}
 use Rattle.kk_counted.specs.TokenedForms.{put_steps}
 use Rattle.kk_counted.proofs.TokenedViews.{hold_step, step_pushed}

@@ -1,4 +1,4 @@
-use Rattle.std.proofs.Common.{[], sym, subst}
+use Rattle.std.proofs.Common.{sym, subst}
 use Rattle.kk_counted.specs.KeptFields.{fields_in, KeepsKnown}
 use Rattle.kk_counted.specs.TokenEmissions.{tokens_of}
 use Rattle.kk_counted.specs.TokenEmitting.{known_now}

@@ -1,4 +1,4 @@
-use Rattle.std.proofs.Common.{◌≡◌, false, true, ap, sym, subst, refl, ◌∙◌}
+use Rattle.std.proofs.Common.{◌≡◌, false, true, ap, sym, subst, ◌∙◌}
 use Rattle.kk_counted.specs.Drafts.{Writes, IsInArm}
 use Rattle.kk_counted.specs.Emissions.{state}
 use Rattle.kk_counted.specs.TokenedCodes.{Tokened}

@@ -1,6 +1,6 @@
-use Rattle.std.proofs.Common.{◌≡◌, false, true, ap, sym, subst, refl, ◌∙◌}
+use Rattle.std.proofs.Common.{◌≡◌, false, true, ap, sym, subst, ◌∙◌}
 use Rattle.std.specs.Prelude.{is_some}
-use Rattle.kk_counted.specs.Drafts.{IsInArm, ended_by_value}
+use Rattle.kk_counted.specs.Drafts.{IsInArm}
 use Rattle.kk_counted.specs.Emissions.{state}
 use Rattle.kk_counted.specs.TokenDrafts.{token_draft, tokens_ended_in, tokened_end}
 use Rattle.kk_counted.specs.TokenEmissions.{counted_of, tokens_of}

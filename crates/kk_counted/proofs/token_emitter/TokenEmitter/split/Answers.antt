@@ -5,7 +5,6 @@ use Rattle.kk_counted.specs.Drafts.{Writes, copies}
 use Rattle.kk_counted.specs.Emissions.{state}
 use Rattle.kk_counted.specs.TokenDrafts.{token_draft}
 use Rattle.kk_counted.specs.TokenEmissions.{counted_of}
-use Rattle.kk_counted.specs.TokenEmitting.{AreNewestTokens}
 use Rattle.kk_counted.specs.Works.{left_in}
 use Rattle.kk_counted.proofs.DraftChanges.{copies_back}
 use Rattle.kk_counted.proofs.TokenDraftBranches.{forked_keeps, forked_left}

@@ -1,4 +1,4 @@
-use Rattle.kk_counted.proofs.TokenDrafted.{branch_joined, no_branch_joined}
+use Rattle.kk_counted.proofs.TokenDrafted.{branch_joined}
 use Rattle.kk_counted.proofs.token_work.TokenWork.join.Goals as goal
 
 pub returns-clause-ok : goal.returns-clause-ok

@@ -1,4 +1,4 @@
-use Rattle.std.proofs.Common.{◌∷◌, ◌++◌, [], false, map, reverse, ap, sym, ◌∙◌}
+use Rattle.std.proofs.Common.{[], false, map, reverse, ap, sym, ◌∙◌}
 use Rattle.std.proofs.lemmas.List.{reverse-reverse}
 use Rattle.kk_counted.specs.declared.token_work.TokenFork.{TokenFork}
 use Rattle.kk_counted.specs.CountedForms.{decisions_of}

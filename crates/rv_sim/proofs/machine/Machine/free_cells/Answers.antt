@@ -1,4 +1,4 @@
-use Rattle.std.proofs.Common.{◌≡◌, ◌≤◌, [], length, sym, ◌∙◌, arith}
+use Rattle.std.proofs.Common.{◌≤◌, [], length, sym, arith}
 use Rattle.rv_isa.specs.FreeCells.{free_chain}
 use Rattle.rv_sim.specs.Simulation.{processor_of}
 use Rattle.rv_sim.proofs.Chains.{free_cells-by}
