@@ -41,6 +41,7 @@ pub computed_same : (form : Form) (xs xs' : List ℕ) (d d' e : Draft) → e ≡
 computed_same form xs xs' d d' e is same all =
     is ∙ (ap (λ z. computed d form z z) all ∙ ap (λ z. computed z form xs' xs') same)
 
+-- what is taken of one reference
 pub only_taken : (rest : List ℕ) (x y : ℕ) → y ∷ [] ≡ rest ++ x ∷ [] → x ≡ y
 only_taken [] x y is = cc
 only_taken (z ∷ []) x y is = absurd (cc)

@@ -1,1 +1,2 @@
 pub mod FunctionMarks
+pub mod TokenJoins

@@ -1,12 +1,12 @@
 -- What the arms of the branches of these tests are to spend.
-use Rattle.std.specs.Prelude.{◌≡◌, ℕ, false, List, [], ◌∷◌, reverse, None}
+use Rattle.std.specs.Prelude.{◌≡◌, ℕ, false, List, [], ◌∷◌, None}
 use Rattle.kk_syntax.specs.declared.positions.Ownership.TheVariants.{Owned}
 use Rattle.kk_counted.specs.declared.debts.Owed.{Owed}
 use Rattle.kk_counted.specs.declared.debts.Debts.{Debts}
 use Rattle.kk_counted.specs.Drafts.{Draft, Writes, IsInArm, HasFields}
 use Rattle.kk_counted.specs.TokenDrafts.{TokenDraft}
 
--- An arm is written, which owns one variable and the tokens in some slots, the newest last. The debts are these.
+-- An arm is written, which owns one variable and the tokens in some slots, one at most. The debts are these.
 pub record IsArmOf (x : ℕ) (slots : List ℕ) (d : Draft) (t : TokenDraft) (debts : Debts) : Type 0 where
   pub writes : Writes d
   pub arm : d.failed ≡ false → IsInArm d.splits
@@ -14,7 +14,7 @@ pub record IsArmOf (x : ℕ) (slots : List ℕ) (d : Draft) (t : TokenDraft) (de
   pub tokens : debts.spare.items ≡ slots
   pub of : debts.emitter ≡ d.instance
   pub owed : d.failed ≡ false → d.owed ≡ x ∷ []
-  pub spare : d.failed ≡ false → t.spare ≡ reverse slots
+  pub spare : d.failed ≡ false → t.spare ≡ slots
   pub ending : d.failed ≡ false → t.ending ≡ None
 
 -- A row is written where the first constructor has two fields, by a function of one owned parameter, which is all that it owns. The

@@ -1,4 +1,4 @@
-//! Functions with branches: in each arm the token is freed, and an arm may end by a tail call.
+//! A function with a branch: each row frees the cell, and one ends by a tail call.
 
 ghost use Rattle.std.specs.Prelude.{◌≡◌, ◌∷◌, [], true, false, IfOk, OnOk, OnErr};
 ghost use Rattle.kk_syntax.specs.declared.positions.Ownership.TheVariants.{Owned};

@@ -37,69 +37,32 @@ pub fn reads(step: &TokenedStep, variable: u32, fields: &[u32]) -> bool {
     }
 }
 
-/// How a step opens a cell: by its count or not, into which fields, and which of them are used.
-#[derive(Drop)]
-struct Opening<'a> {
-    by_count: bool,
-    fields: &'a [u32],
-    used: &'a [u32],
-}
-
-/// How a step opens the cell of the first variable, by the first constructor, where its token stands in the first slot.
-fn opening_of(step: &TokenedStep) -> Option<Opening<'_>> {
+/// Whether the cell of the first variable is opened, by the first constructor, and its token stands in the first slot.
+pub fn opens(step: &TokenedStep, fields: &[u32], used: &[u32]) -> bool {
     match step {
         TokenedStep::Open {
             variable: 0,
             constructor: 0,
-            fields,
-            used,
+            fields: found,
+            used: kept,
             slot: 0,
-        }
-        | TokenedStep::IfUnique {
+        } => found.as_slice() == fields && kept.as_slice() == used,
+        _ => false,
+    }
+}
+
+/// Whether it is opened by its count.
+pub fn opens_by_count(step: &TokenedStep, fields: &[u32], used: &[u32]) -> bool {
+    match step {
+        TokenedStep::IfUnique {
             variable: 0,
             constructor: 0,
-            fields,
-            used,
+            fields: found,
+            used: kept,
             slot: 0,
-        } => Some(Opening {
-            by_count: matches!(step, TokenedStep::IfUnique { .. }),
-            fields,
-            used,
-        }),
-        _ => None,
+        } => found.as_slice() == fields && kept.as_slice() == used,
+        _ => false,
     }
-}
-
-/// Whether a cell is opened so.
-fn opens_as(step: &TokenedStep, expected: &Opening<'_>) -> bool {
-    match opening_of(step) {
-        Some(found) => {
-            found.by_count == expected.by_count
-                && found.fields == expected.fields
-                && found.used == expected.used
-        }
-        None => false,
-    }
-}
-
-/// Whether the cell of the first variable is opened, and its token stands in the first slot.
-pub fn opens(step: &TokenedStep, fields: &[u32], used: &[u32]) -> bool {
-    let expected = Opening {
-        by_count: false,
-        fields,
-        used,
-    };
-    opens_as(step, &expected)
-}
-
-/// Whether the cell of the first variable is opened by its count, and its token stands in the first slot.
-pub fn opens_by_count(step: &TokenedStep, fields: &[u32], used: &[u32]) -> bool {
-    let expected = Opening {
-        by_count: true,
-        fields,
-        used,
-    };
-    opens_as(step, &expected)
 }
 
 /// Whether a variable takes a cell of the first constructor in that of the only token, which stands in the first slot.
