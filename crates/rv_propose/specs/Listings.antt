@@ -1,4 +1,4 @@
--- Which values are listed at a point of code.
+-- Where a value is listed at a point of code.
 use Rattle.std.specs.Prelude.{◌==◌, ℕ, List, [], ◌∷◌, Option, Some, None, cond}
 use Rattle.rv_isa.specs.declared.placed.Listed.{Listed}
 

@@ -1,10 +1,12 @@
 // The ways to labels: each value that is alive at a label stands there where it stands on all ways to it.
 
+ghost use Rattle.std.specs.Prelude.{◌<◌, length, IfSome};
+
 use crate::liveness::{Point, alive_at, is_one_of};
 use crate::plans::{Care, Copied, Due, Plans};
 use crate::state::{
-    NUMBERS, any_register, is_copied_in, is_in_slot, is_to_be_had, is_used, listing, register_of,
-    same_state, stands_in, state_at, used_registers, without_copy_in,
+    any_register, is_copied_in, is_in_slot, is_to_be_had, listing, register_of, same_state,
+    stands_in, state_at, unused_register, used_registers, without_copy_in,
 };
 use kk_base::NoMemory;
 use rv_isa::{Action, Item, Listed, Place, Register, Way};
@@ -17,14 +19,14 @@ struct PlaceMove {
     to: Register,
 }
 
-// The index of what is kept of a label; or the length, where nothing is.
-fn index_of(kept: &[KeptState], label: u32) -> usize {
-    for (index, other) in kept.iter().enumerate() {
-        if other.label == label {
-            return index;
-        }
-    }
-    kept.len()
+/// The most moves that bring values to where they stand at a label.
+const MOST_MOVES: u32 = 64;
+
+// The index of what is kept of a label.
+fn index_of(kept: &[KeptState], label: u32) -> Option<usize>
+    ensures { IfSome result (λ at. at < length kept.now) }
+{
+    kept.iter().position(|other| other.label == label)
 }
 
 // The register that is the value's place at the label, if a move has to bring the value there.
@@ -105,7 +107,7 @@ pub fn make_way(alloc: Global, walk: &mut Walk, listed: Listed) -> Result<(), No
 // Each value comes to where it stands at the label.
 fn reach(alloc: Global, walk: &mut Walk, goals: &[Listed], care: &Care) -> Result<(), NoMemory> {
     store_for(alloc, walk, goals, care)?;
-    for _ in 0..64_u32 {
+    for _ in 0..MOST_MOVES {
         if let Some(next) = next_move(&walk.state, goals) {
             put_away(alloc, walk, next.listed, next.to)?;
         } else if let Some(listed) = next_in_the_way(&walk.state, goals) {
@@ -221,8 +223,7 @@ pub fn go_to(
     plans: &Plans,
     care: &Care,
 ) -> Result<(), NoMemory> {
-    let at = index_of(&walk.kept, label);
-    if at < walk.kept.len() {
+    if let Some(at) = index_of(&walk.kept, label) {
         let goals = same_state(alloc, &walk.kept[at].state)?;
         reach(alloc, walk, &goals, care)
     } else if is_one_of(label, &plans.lone) {
@@ -237,8 +238,7 @@ pub fn go_to(
 /// The register that the value has at the next label ahead that tells it, if that is to be had.
 pub fn kept_register(walk: &Walk, keep: &[u32], ahead: &[u32], value: u32) -> Option<Register> {
     for label in ahead {
-        let at = index_of(&walk.kept, *label);
-        if at < walk.kept.len() {
+        if let Some(at) = index_of(&walk.kept, *label) {
             if let Some(listed) = listing(&walk.kept[at].state, value) {
                 return match register_of(listed) {
                     Some(register)
@@ -285,8 +285,7 @@ pub fn join(
     plans: &Plans,
     care: &Care,
 ) -> Result<(), NoMemory> {
-    let at = index_of(&walk.kept, label);
-    if at < walk.kept.len() {
+    if let Some(at) = index_of(&walk.kept, label) {
         let state = joined(alloc, &walk.kept[at].state, &walk.state)?;
         walk.kept[at].state = state;
     } else {
@@ -302,12 +301,8 @@ pub fn join(
 
 /// The index of the statement from which the first way led to a label.
 pub fn index_from(kept: &[KeptState], label: u32) -> Option<usize> {
-    for other in kept {
-        if other.label == label {
-            return Some(other.from);
-        }
-    }
-    None
+    let at = index_of(kept, label)?;
+    Some(kept[at].from)
 }
 
 /// Where values stand at a label, behind all ways to it. It is not kept any longer.
@@ -317,13 +312,11 @@ pub fn take_state(
     label: u32,
     point: &Point,
 ) -> Result<Vec<Listed>, NoMemory> {
-    let at = index_of(kept, label);
-    if at < kept.len() {
-        let here = kept.swap_remove(at);
-        state_at(alloc, &here.state, point)
-    } else {
-        state_at(alloc, &[], point)
-    }
+    let Some(at) = index_of(kept, label) else {
+        return state_at(alloc, &[], point);
+    };
+    let here = kept.swap_remove(at);
+    state_at(alloc, &here.state, point)
 }
 
 /// Where values stand at a label, by the ways to it so far.
@@ -492,10 +485,8 @@ fn longest_alive(state: &[Listed], keep: &[u32]) -> Option<u32> {
 // Where values stand at the next label ahead that tells it.
 fn awaited(walk: &Walk) -> &[Listed] {
     for label in &walk.ahead {
-        for kept in &walk.kept {
-            if kept.label == *label {
-                return &kept.state;
-            }
+        if let Some(at) = index_of(&walk.kept, *label) {
+            return &walk.kept[at].state;
         }
     }
     &[]
@@ -503,14 +494,7 @@ fn awaited(walk: &Walk) -> &[Listed] {
 
 // A free register that no value is to be in there.
 fn quiet_register(walk: &Walk) -> Option<Register> {
-    let used = used_registers(&walk.state);
-    let awaited = used_registers(awaited(walk));
-    for number in NUMBERS {
-        if !is_used(&used, number) && !is_used(&awaited, number) {
-            return Register::try_new(number);
-        }
-    }
-    None
+    unused_register(&used_registers(&walk.state), &used_registers(awaited(walk)))
 }
 
 /// A register for a value, which has at most copies, and none of these values. Where there is none, it is any, and the walk tells

@@ -1,5 +1,5 @@
 //! Places for the values of a function, as a proposal: values stay in registers as long as they can. Nothing is proved of what is
-//! proposed: rv_regs checks it. What is alive at each point of the code is told exactly.
+//! proposed: rv_regs checks it. What is alive at each point of the code, and where a value is listed, is told exactly.
 #![tactic(auto)]
 
 mod joins;

@@ -62,10 +62,7 @@ fn add_all(values: &mut Vec<u32>, more: &[u32]) -> Result<(), NoMemory>
 pub fn copy_of(alloc: Global, values: &[u32]) -> Result<Vec<u32>, NoMemory>
     ensures { IfOk result (λ copy. copy.items ≡ values.now) }
 {
-    match Vec::from_slice(alloc, values) {
-        Ok(copy) => Ok(copy),
-        Err(_) => Err(NoMemory),
-    }
+    Ok(Vec::from_slice(alloc, values)?)
 }
 
 fn other_than(alloc: Global, into: Option<u32>, values: &[u32]) -> Result<Vec<u32>, NoMemory>

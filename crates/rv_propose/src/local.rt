@@ -23,10 +23,13 @@ use std::alloc::Global;
 /// How often a function is written anew with more care.
 const MOST_ROUNDS: u32 = 8;
 
-// Whether the place is a register that routines spoil, which print and read nothing.
+/// The most moves that bring arguments to their registers.
+const MOST_ARGUMENT_MOVES: u32 = 16;
+
+// Whether the place is a register that a drop spoils.
 fn is_soon_spoilt(place: Place) -> bool {
     match place {
-        Place::Register(register) => matches!(register.number, 5 | 10..=13),
+        Place::Register(register) => Routine::Drop.spoils(register.number),
         Place::Slot(_) => false,
     }
 }
@@ -65,7 +68,9 @@ fn register_for(
     if let Some(register) = kept_register(walk, keep, &plan.ahead, value) {
         return Ok(register);
     }
-    if let (Some(register), true) = (idle, is_one_of(value, &plan.slotted)) {
+    if let Some(register) = idle
+        && is_one_of(value, &plan.slotted)
+    {
         return Ok(register);
     }
     if let Some(register) = wished_register(&walk.state, keep, plan, value) {
@@ -88,7 +93,7 @@ fn idle_register(
 ) -> Option<Register> {
     if let Some(register) = Action::Compute(operation).home() {
         let is_open = is_to_be_had(state, &[], register) && !is_one_of(value, &plan.joining);
-        return if is_open { Some(register) } else { None };
+        return is_open.then_some(register);
     }
     if let (Operation::Mv, Some(arg)) = (operation, args.first()) {
         if let Place::Register(register) = arg.place {
@@ -251,7 +256,7 @@ fn next_move(state: &[Listed], args: &[u32]) -> Option<ArgumentMove> {
 
 // Each argument comes to the register where it is taken.
 fn arrange(alloc: Global, walk: &mut Walk, args: &[u32]) -> Result<(), NoMemory> {
-    for _ in 0..16_u32 {
+    for _ in 0..MOST_ARGUMENT_MOVES {
         if let Some(next) = next_move(&walk.state, args) {
             if next.is_away {
                 put_away(alloc, walk, next.listed, next.to)?;
@@ -770,17 +775,17 @@ pub fn local_function(
             crowded,
             ..
         } = walk;
-        let is_early = add_new(&mut care.early, &early)?;
-        let is_crowded = add_new(&mut care.slotted, &crowded)?;
+        let has_more_early = add_new(&mut care.early, &early)?;
+        let has_more_slotted = add_new(&mut care.slotted, &crowded)?;
         care.due.extend_from_slice(&due)?;
-        if due.is_empty() && !is_early && !is_crowded {
+        if due.is_empty() && !has_more_early && !has_more_slotted {
             let params = copy_of(alloc, &function.params)?;
             return Ok(Some(PlacedFunction {
                 params,
                 code: items,
             }));
         }
-        if is_early {
+        if has_more_early {
             match plans_of(alloc, &function.code, &care)? {
                 Some(others) => plans = others,
                 None => return Ok(None),

@@ -16,6 +16,9 @@ use std::mem;
 /// The most work that code with registers is worth: its lines times the square of the most values that are alive at a point.
 const MOST_WORK: usize = 50_000_000;
 
+/// The most values that a function with registers may have.
+const MOST_VALUES: usize = 10_000;
+
 /// The most labels and the most copies ahead of a point that are told.
 const MOST_AHEAD: usize = 16;
 
@@ -89,6 +92,7 @@ pub struct Plans {
     pub points: Vec<Plan>,
     /// What is alive at each label.
     pub alive: Vec<LabelPoint>,
+    /// The labels to which one way alone leads.
     pub lone: Vec<u32>,
 }
 
@@ -173,8 +177,7 @@ fn is_read_on(statement: &Statement, value: u32, behind: &[u32]) -> bool {
 /// The label to which a jump or a branch leads.
 pub fn named_label(action: Action) -> Option<u32> {
     match action {
-        Action::Jump(label) => Some(label),
-        Action::Branch(_, label) => Some(label),
+        Action::Jump(label) | Action::Branch(_, label) => Some(label),
         _ => None,
     }
 }
@@ -403,18 +406,14 @@ fn wishes_behind(alloc: Global, walk: &Walk, action: Action) -> Result<Vec<Wish>
 
 // What a copy wishes for, its value wishes for too, unless this keeps its register behind the copy.
 fn copied_wish(walk: &Walk, statement: &Statement, wish: Wish) -> Option<Wish> {
-    match (statement.action, statement.args.first()) {
-        (Action::Compute(Operation::Mv), Some(value))
-            if is_result(statement.into, wish.value)
-                && (!is_one_of(*value, &walk.at.point.alive)
-                    || is_one_of(*value, &walk.at.stored)) => {
-            Some(Wish {
-                value: *value,
-                ..wish
-            })
-        }
-        _ => None,
-    }
+    let copied = copied_by(statement)?;
+    let keeps_its_register = is_one_of(copied.from, &walk.at.point.alive)
+        && !is_one_of(copied.from, &walk.at.stored);
+    let wanted = Wish {
+        value: copied.from,
+        ..wish
+    };
+    (copied.into == wish.value && !keeps_its_register).then_some(wanted)
 }
 
 // The wishes with those for the arguments of a statement that are taken in their registers. One that is read on behind the statement
@@ -426,10 +425,9 @@ fn with_arguments(
 ) -> Result<Vec<Wish>, NoMemory> {
     let mut next = wishes;
     for (index, value) in statement.args.iter().enumerate() {
-        if let (Some(register), false) = (
-            argument_register(index),
-            is_read_on(statement, *value, behind),
-        ) {
+        if let Some(register) = argument_register(index)
+            && !is_read_on(statement, *value, behind)
+        {
             let wish = Wish {
                 value: *value,
                 register,
@@ -575,8 +573,7 @@ fn put_label(alloc: Global, walk: &mut Walk, label: u32, plan: &Plan) -> Result<
     put_point(alloc, &mut walk.joining, label, &plan.joining)?;
     put_point(alloc, &mut walk.read, label, &plan.read)?;
     put_point(alloc, &mut walk.ahead, label, &plan.ahead)?;
-    let mut wishes = Vec::new(alloc);
-    wishes.extend_from_slice(&plan.wishes)?;
+    let wishes = Vec::from_slice(alloc, &plan.wishes)?;
     walk.wishes.push(LabelWishes { label, wishes })?;
     Ok(())
 }
@@ -598,7 +595,7 @@ fn step(
 }
 
 fn is_too_much(lines: usize, values: usize) -> bool {
-    values > 10_000 || lines > MOST_WORK / (values * values + 1)
+    values > MOST_VALUES || lines > MOST_WORK / (values * values + 1)
 }
 
 fn no_plan(alloc: Global) -> Plan {

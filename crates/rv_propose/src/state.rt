@@ -9,7 +9,7 @@ use kk_base::NoMemory;
 use rv_isa::{Action, Listed, Operand, Place, Register};
 use std::alloc::Global;
 
-/// Where a value stands, by what is listed.
+/// The first listing of a value, if it is listed: where it stands.
 pub fn listing(state: &[Listed], value: u32) -> Option<Listed>
     ensures { result ≡ listed_as value state.now }
 {
@@ -93,8 +93,8 @@ pub fn is_to_be_had(state: &[Listed], keep: &[u32], register: Register) -> bool 
     true
 }
 
-/// The registers that a value may stay in, by number. Calls spoil them, and prints and reads some of them; no other action does.
-pub const NUMBERS: [u8; 18] = [
+// The registers that a value may stay in, by number. Calls spoil them, and prints and reads some of them; no other action does.
+const VALUE_REGISTERS: [u8; 18] = [
     6, 7, 28, 29, 30, 31, 21, 22, 23, 24, 25, 26, 27, 4, 17, 16, 15, 14,
 ];
 
@@ -119,26 +119,30 @@ pub fn used_registers(state: &[Listed]) -> [bool; 32] {
     used
 }
 
-/// Whether the register of a number is used.
-pub fn is_used(used: &[bool; 32], number: u8) -> bool {
+// Whether the register of a number is used.
+fn is_used(used: &[bool; 32], number: u8) -> bool {
     match used.get(usize::from(number)) {
         Some(is_used) => *is_used,
         None => false,
     }
 }
 
-fn free_register(state: &[Listed]) -> Option<Register> {
-    let used = used_registers(state);
-    for number in NUMBERS {
-        if !is_used(&used, number) {
+/// A register that values may stay in and that is used by neither of two tables.
+pub fn unused_register(used: &[bool; 32], awaited: &[bool; 32]) -> Option<Register> {
+    for number in VALUE_REGISTERS {
+        if !is_used(used, number) && !is_used(awaited, number) {
             return Register::try_new(number);
         }
     }
     None
 }
 
+fn free_register(state: &[Listed]) -> Option<Register> {
+    unused_register(&used_registers(state), &[false; 32])
+}
+
 fn register_to_be_had(state: &[Listed], keep: &[u32]) -> Option<Register> {
-    for number in NUMBERS {
+    for number in VALUE_REGISTERS {
         if let Some(register) = Register::try_new(number) {
             if is_to_be_had(state, keep, register) {
                 return Some(register);

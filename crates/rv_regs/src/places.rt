@@ -23,6 +23,7 @@ pub fn is_read(reads: &[Operand], value: u32) -> bool
     false
 }
 
+/// Whether the value is the one that is written.
 pub fn is_written(write: Option<Operand>, value: u32) -> bool
     ensures { IsTrue result ↔ IsWritten write value }
 {
@@ -32,6 +33,7 @@ pub fn is_written(write: Option<Operand>, value: u32) -> bool
     }
 }
 
+/// Whether the value is listed.
 pub fn is_listed(alive: &[Listed], value: u32) -> bool
     ensures { IsTrue result ↔ IsListed alive.now value }
 {
@@ -94,6 +96,7 @@ pub fn all_apart(alive: &[Listed]) -> bool
     true
 }
 
+/// Whether two registers are the same.
 pub fn same_register(a: Register, b: Register) -> bool
     ensures { IsTrue result ↔ (a ≡ b) }
 {
