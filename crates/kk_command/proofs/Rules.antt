@@ -1,13 +1,14 @@
 -- What the arguments of the line and its command are for clap, setting by setting.
-use Rattle.std.proofs.Common.{◌≡◌, ℕ, true, Some, ap, ◌∙◌}
+use Rattle.std.proofs.Common.{◌≡◌, ℕ, true, Some, ap, codes, ◌∙◌}
 use Rattle.std.specs.Prelude.{Result, Ok, Err, IfOk, IsOkAnd}
 use Rattle.std.specs.Borrow.{Bor}
-use Rattle.clap.specs.Words.{App, Rule, Text, app_of, rule_of, with_subcommand}
+use Rattle.clap.specs.Words.{App, Rule, Text, app_of, rule_of, with_rule, with_subcommand}
 use Rattle.clap.specs.Simple.{app_of_fields}
 use Rattle.clap.specs.declared.builder.action.ArgAction.{ArgAction}
 use Rattle.clap.specs.declared.builder.arg.Arg.{Arg}
 use Rattle.clap.specs.declared.builder.command.Command.{Command}
 use Rattle.clap.specs.declared.builder.command.Command.TheViews.{out-Command as fields_of}
+use Rattle.kk_command.specs.Requests.{optional, with_sizes}
 
 module _ (before after : Arg) (rule : Rule) (is : rule_of before ≡ rule) where
   pub now_required : after ≡ record before { required = true } → rule_of after ≡ record rule { required = true }
@@ -35,6 +36,35 @@ module _ (before after : Command) (app : App) (is : app_of before ≡ app) where
 -- what is made for clap, if there is memory for it, is this
 abbrev pub IsLike : {E : Type 0} → Result Command E → App → Type 0
 IsLike made app = IfOk made (λ c. app_of c ≡ app)
+
+-- a command of a line and an argument of a rule, and the command with the argument
+pub with_argument : {E : Type 0} (command result : Result Command E) (argument : Arg) (app : App) (rule : Rule)
+    → IfOk result (λ r. IsOkAnd command (λ c. app_of r ≡ with_rule (app_of c) (rule_of argument)))
+    → IsLike command app → rule_of argument ≡ rule → IsLike result (with_rule app rule)
+with_argument command (Err e) argument app rule added one other = tt
+with_argument (Err e) (Ok r) argument app rule added one other = absurd added
+with_argument (Ok c) (Ok r) argument app rule added one other =
+    added ∙ (ap (λ a. with_rule a (rule_of argument)) one ∙ ap (λ (r : Rule). with_rule app r) other)
+
+-- a command, and the command with the arguments of the sizes, one added after the other
+pub with_both_sizes : {E : Type 0} (command first result : Result Command E) (cells depth : Arg)
+    → IfOk first (λ r. IsOkAnd command (λ c. app_of r ≡ with_rule (app_of c) (rule_of cells)))
+    → IfOk result (λ r. IsOkAnd first (λ c. app_of r ≡ with_rule (app_of c) (rule_of depth)))
+    → rule_of cells ≡ optional (codes "cells") → rule_of depth ≡ optional (codes "depth")
+    → IfOk result (λ r. IsOkAnd command (λ c. app_of r ≡ with_sizes (app_of c)))
+with_both_sizes command first (Err e) cells depth one other are_cells are_depth = tt
+with_both_sizes command (Err e) (Ok r) cells depth one other are_cells are_depth = absurd other
+with_both_sizes (Err e) (Ok f) (Ok r) cells depth one other are_cells are_depth = absurd one
+with_both_sizes (Ok c) (Ok f) (Ok r) cells depth one other are_cells are_depth =
+    let first = one ∙ ap (λ (rule : Rule). with_rule (app_of c) rule) are_cells in
+    other ∙ (ap (λ a. with_rule a (rule_of depth)) first ∙ ap (λ (rule : Rule). with_rule (with_rule (app_of c) (optional (codes "cells"))) rule) are_depth)
+
+-- a command of a line, and the command with the sizes
+pub with_size_arguments : {E : Type 0} (command result : Result Command E) (app : App)
+    → IfOk result (λ r. IsOkAnd command (λ c. app_of r ≡ with_sizes (app_of c))) → IsLike command app → IsLike result (with_sizes app)
+with_size_arguments command (Err e) app added one = tt
+with_size_arguments (Err e) (Ok r) app added one = absurd added
+with_size_arguments (Ok c) (Ok r) app added one = added ∙ ap with_sizes one
 
 -- a program and a command of these lines, and the program with the command
 pub with_line : {E : Type 0} (program command result : Result Command E) (app line : App)

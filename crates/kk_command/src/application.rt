@@ -41,30 +41,33 @@ fn stats<'a>(alloc: Global) -> Arg<'a>
         .action(ArgAction::SetTrue)
 }
 
-/// Adds an argument to a command without global arguments.
-fn with<'a>(command: App<'a>, argument: Arg<'a>) -> Result<App<'a>, AllocError>
-    requires command { (fields_of command).has_globals ≡ false }
+/// Adds an argument to a command without global arguments, where the command is there.
+fn with<'a>(command: Result<App<'a>, AllocError>, argument: Arg<'a>) -> Result<App<'a>, AllocError>
+    requires command { IfOk command (λ c. (fields_of c).has_globals ≡ false) }
     requires argument { argument.global ≡ false }
-    ensures app { IfOk result (λ c. app_of c ≡ with_rule (app_of command.entry) (rule_of argument.entry)) }
-    ensures local { IfOk result (λ c. (fields_of c).has_globals ≡ false) }
+    ensures app { IfOk result (λ r. IsOkAnd command.entry (λ c. app_of r ≡ with_rule (app_of c) (rule_of argument.entry))) }
+    ensures local { IfOk result (λ r. (fields_of r).has_globals ≡ false) }
 {
-    command.arg(argument)
+    command?.arg(argument)
 }
 
 fn check_command<'a>(alloc: Global) -> Result<App<'a>, AllocError>
     ensures app { IfOk result (λ c. app_of c ≡ check_app) }
     ensures local { IfOk result (λ c. (fields_of c).has_globals ≡ false) }
 {
-    with(App::new(alloc, "check"), argument(alloc, "file"))
+    with(Ok(App::new(alloc, "check")), argument(alloc, "file"))
 }
 
 /// Adds the sizes that an image is built with.
-fn with_size_options<'a>(alloc: Global, command: App<'a>) -> Result<App<'a>, AllocError>
-    requires { (fields_of command).has_globals ≡ false }
-    ensures app { IfOk result (λ c. app_of c ≡ with_sizes (app_of command.entry)) }
+fn with_size_options<'a>(
+    alloc: Global,
+    command: Result<App<'a>, AllocError>,
+) -> Result<App<'a>, AllocError>
+    requires { IfOk command (λ c. (fields_of c).has_globals ≡ false) }
+    ensures app { IfOk result (λ r. IsOkAnd command.entry (λ c. app_of r ≡ with_sizes (app_of c))) }
     ensures local { IfOk result (λ c. (fields_of c).has_globals ≡ false) }
 {
-    let command = with(command, number_option(alloc, "cells"))?;
+    let command = with(command, number_option(alloc, "cells"));
     with(command, number_option(alloc, "depth"))
 }
 
@@ -72,8 +75,8 @@ fn build_command<'a>(alloc: Global) -> Result<App<'a>, AllocError>
     ensures app { IfOk result (λ c. app_of c ≡ build_app) }
     ensures local { IfOk result (λ c. (fields_of c).has_globals ≡ false) }
 {
-    let command = with(App::new(alloc, "build"), argument(alloc, "file"))?;
-    let command = with(command, out(alloc))?;
+    let command = with(Ok(App::new(alloc, "build")), argument(alloc, "file"));
+    let command = with(command, out(alloc));
     with_size_options(alloc, command)
 }
 
@@ -81,9 +84,9 @@ fn run_command<'a>(alloc: Global) -> Result<App<'a>, AllocError>
     ensures app { IfOk result (λ c. app_of c ≡ run_app) }
     ensures local { IfOk result (λ c. (fields_of c).has_globals ≡ false) }
 {
-    let command = with(App::new(alloc, "run"), argument(alloc, "file"))?;
-    let command = with_size_options(alloc, command)?;
-    let command = with(command, number_option(alloc, "steps"))?;
+    let command = with(Ok(App::new(alloc, "run")), argument(alloc, "file"));
+    let command = with_size_options(alloc, command);
+    let command = with(command, number_option(alloc, "steps"));
     with(command, stats(alloc))
 }
 
@@ -91,7 +94,7 @@ fn sim_command<'a>(alloc: Global) -> Result<App<'a>, AllocError>
     ensures app { IfOk result (λ c. app_of c ≡ sim_app) }
     ensures local { IfOk result (λ c. (fields_of c).has_globals ≡ false) }
 {
-    let command = with(App::new(alloc, "sim"), argument(alloc, "image"))?;
+    let command = with(Ok(App::new(alloc, "sim")), argument(alloc, "image"));
     with(command, number_option(alloc, "steps"))
 }
 
@@ -99,8 +102,8 @@ fn eval_command<'a>(alloc: Global) -> Result<App<'a>, AllocError>
     ensures app { IfOk result (λ c. app_of c ≡ eval_app) }
     ensures local { IfOk result (λ c. (fields_of c).has_globals ≡ false) }
 {
-    let command = with(App::new(alloc, "eval"), argument(alloc, "file"))?;
-    let command = with_size_options(alloc, command)?;
+    let command = with(Ok(App::new(alloc, "eval")), argument(alloc, "file"));
+    let command = with_size_options(alloc, command);
     with(command, number_option(alloc, "steps"))
 }
 
@@ -108,9 +111,9 @@ fn bench_command<'a>(alloc: Global) -> Result<App<'a>, AllocError>
     ensures app { IfOk result (λ c. app_of c ≡ bench_app) }
     ensures local { IfOk result (λ c. (fields_of c).has_globals ≡ false) }
 {
-    let command = with(App::new(alloc, "bench"), argument(alloc, "seed"))?;
-    let command = with(command, argument(alloc, "size"))?;
-    let command = with_size_options(alloc, command)?;
+    let command = with(Ok(App::new(alloc, "bench")), argument(alloc, "seed"));
+    let command = with(command, argument(alloc, "size"));
+    let command = with_size_options(alloc, command);
     with(command, number_option(alloc, "steps"))
 }
 
