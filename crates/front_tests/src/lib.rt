@@ -1,9 +1,7 @@
-//! Tests of the public calls below the program's front end, and of those on owned parameters and on coverage: tests alone.
-//! Texts with what the program answers stand in examples/.
+//! Tests of the public calls on tokens, on types that are made equal, on owned parameters and on texts that are made: tests alone.
+//! Texts with what the program answers stand in examples/, as those of types and of coverage.
 #![tactic(auto)]
 
-#[cfg(test)]
-mod cover;
 #[cfg(test)]
 mod expressions;
 #[cfg(test)]
@@ -12,7 +10,5 @@ mod generator;
 mod lexer;
 #[cfg(test)]
 mod owned;
-#[cfg(test)]
-mod types;
 #[cfg(test)]
 mod unify;
