@@ -1,7 +1,5 @@
-//! Tests of the machine that runs programs, and of what decides a match: tests alone.
+//! Tests of what decides a match: tests alone.
 #![tactic(auto)]
 
 #[cfg(test)]
 mod decisions;
-#[cfg(test)]
-mod runs;
