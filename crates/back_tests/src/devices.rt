@@ -5,14 +5,6 @@ use kk_memio::{MemSink, MemSource, MemStore, PlainSource, TallySink};
 use std::alloc::Global;
 use std::test::Fail;
 
-fn next_of<S: Source>(source: &mut S) -> Next {
-    source.next()
-}
-
-fn put_on<S: Sink>(sink: &mut S, piece: &[u8]) -> Put {
-    sink.put(piece)
-}
-
 fn read_from<S: Store>(
     store: &mut S,
     alloc: Global,
@@ -26,10 +18,6 @@ fn read_from<S: Store>(
     }
 }
 
-fn write_to<S: Store>(store: &mut S, name: &str, bytes: &[u8]) -> Wrote {
-    store.write(name, bytes)
-}
-
 #[test]
 fn a_source_fails_in_the_planned_calls(rt: HostRuntime) -> Result<(), Fail> {
     let mut source = MemSource::new(rt.alloc(), b"ab", &[4, 2])?;
@@ -41,11 +29,11 @@ fn a_source_fails_in_the_planned_calls(rt: HostRuntime) -> Result<(), Fail> {
         Next::End,
         Next::End,
     ] {
-        assert_eq!(rt; next_of(&mut source), expected);
+        assert_eq!(rt; source.next(), expected);
     }
     let mut plain = PlainSource::new(rt.alloc(), b"a")?;
     for expected in [Next::Byte(b'a'), Next::End, Next::End] {
-        assert_eq!(rt; next_of(&mut plain), expected);
+        assert_eq!(rt; plain.next(), expected);
     }
     Ok(())
 }
@@ -61,12 +49,12 @@ fn a_sink_fails_in_the_planned_calls_and_past_its_room(rt: HostRuntime) -> Resul
         ("g", Put::Failed(0), "abcde"),
         ("", Put::All, "abcde"),
     ] {
-        assert_eq!(rt; put_on(&mut sink, piece.as_bytes()), expected);
+        assert_eq!(rt; sink.put(piece.as_bytes()), expected);
         assert_eq!(rt; sink.held_bytes(), held.as_bytes());
     }
     let mut tally = TallySink::new();
     for (piece, expected) in [("abc", 3), ("", 3), ("de", 5)] {
-        assert_eq!(rt; put_on(&mut tally, piece.as_bytes()), Put::All);
+        assert_eq!(rt; tally.put(piece.as_bytes()), Put::All);
         assert_eq!(rt; tally.tally(), expected);
     }
     Ok(())
@@ -92,7 +80,7 @@ fn a_store_fails_in_the_planned_calls_and_without_a_file(rt: HostRuntime) -> Res
         ("two", Wrote::Failed, "one"),
         ("three", Wrote::Done, "three"),
     ] {
-        assert_eq!(rt; write_to(&mut store, "b", bytes.as_bytes()), expected);
+        assert_eq!(rt; store.write("b", bytes.as_bytes()), expected);
         assert_eq!(rt; store.file_bytes("b").ok_or("missing")?, content.as_bytes());
     }
     assert_eq!(rt; store.file_bytes("a").ok_or("missing")?, b"xyz".as_slice());

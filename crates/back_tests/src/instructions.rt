@@ -1,8 +1,8 @@
-// Words and values worked out by hand from the manual.
+// Words worked out by hand from the manual. What instructions do, and which words are none, examples/images.words shows.
 
 use rv_isa::{
-    Act, BranchOffset, Immediate, Instr, JumpOffset, Register, ShiftAmount, UpperImmediate, decode,
-    effect, encode,
+    BranchOffset, Immediate, Instr, JumpOffset, Register, ShiftAmount, UpperImmediate, decode,
+    encode,
 };
 
 #[test]
@@ -93,85 +93,6 @@ fn words(rt: HostRuntime) {
         };
         assert_eq!(rt; again, word);
     }
-}
-
-#[test]
-fn words_outside_the_table(rt: HostRuntime) {
-    let words = [
-        0x0000_0000,
-        0xffff_ffff,
-        0x0420_81b3, // an unused funct7
-        0x4020_9133, // SLL with the funct7 of SRA
-        0x0081_3303, // LD of RV64I
-        0x0000_100f, // FENCE.I
-        0x0000_10e7, // JALR with another funct3
-        0x0000_00f3, // ECALL with a destination
-        0x3020_0073, // MRET
-    ];
-    for word in words {
-        assert!(rt; decode(word).is_none(), "{word:08x}");
-    }
-}
-
-#[test]
-fn values(rt: HostRuntime) {
-    let (rd, rs1, rs2) = (Register::A0, Register::A1, Register::A2);
-    let shamt = ShiftAmount::new(31);
-    let minimum = 0x8000_0000;
-    let minus_one = 0xffff_ffff;
-    let rows = [
-        (Instr::Div { rd, rs1, rs2 }, 7, 0, minus_one),
-        (Instr::Div { rd, rs1, rs2 }, minimum, minus_one, minimum),
-        (Instr::Div { rd, rs1, rs2 }, 7, 0xffff_fffe, 0xffff_fffd),
-        (Instr::Divu { rd, rs1, rs2 }, 7, 0, minus_one),
-        (Instr::Divu { rd, rs1, rs2 }, minimum, minus_one, 0),
-        (Instr::Rem { rd, rs1, rs2 }, 7, 0, 7),
-        (Instr::Rem { rd, rs1, rs2 }, minimum, minus_one, 0),
-        (Instr::Rem { rd, rs1, rs2 }, 0xffff_fff9, 2, minus_one),
-        (Instr::Remu { rd, rs1, rs2 }, 0xffff_fff9, 0, 0xffff_fff9),
-        (Instr::Remu { rd, rs1, rs2 }, 0xffff_fff9, 2, 1),
-        (Instr::Mulh { rd, rs1, rs2 }, minimum, minimum, 0x4000_0000),
-        (Instr::Mulh { rd, rs1, rs2 }, minus_one, 1, minus_one),
-        (
-            Instr::Mulhsu { rd, rs1, rs2 },
-            minus_one,
-            minus_one,
-            minus_one,
-        ),
-        (Instr::Mulhsu { rd, rs1, rs2 }, minimum, minus_one, minimum),
-        (
-            Instr::Mulhu { rd, rs1, rs2 },
-            minus_one,
-            minus_one,
-            0xffff_fffe,
-        ),
-        (Instr::Sll { rd, rs1, rs2 }, 3, 33, 6),
-        (Instr::Srl { rd, rs1, rs2 }, minimum, 31, 1),
-        (Instr::Sra { rd, rs1, rs2 }, minimum, 31, minus_one),
-        (Instr::Sra { rd, rs1, rs2 }, minimum, 32, minimum),
-        (Instr::Slli { rd, rs1, shamt }, 3, 0, minimum),
-        (Instr::Srli { rd, rs1, shamt }, minimum, 0, 1),
-        (Instr::Srai { rd, rs1, shamt }, minimum, 0, minus_one),
-    ];
-    for (instr, a, b, value) in rows {
-        let found = effect(instr, 0x1_0000, a, b);
-        assert_eq!(rt; found.next, 0x1_0004, "of {a:08x} and {b:08x}");
-        assert_eq!(rt; found.act, Act::Set(value), "of {a:08x} and {b:08x}");
-    }
-}
-
-#[test]
-fn operands(rt: HostRuntime) {
-    let (rs1, rs2) = (Register::SP, Register::RA);
-    let found = Instr::Sw {
-        rs1,
-        rs2,
-        imm: Immediate::ZERO,
-    }
-    .operands();
-    assert_eq!(rt; found.rd, Register::ZERO);
-    assert_eq!(rt; found.rs1, rs1);
-    assert_eq!(rt; found.rs2, rs2);
 }
 
 #[test]

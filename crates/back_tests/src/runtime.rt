@@ -3,14 +3,13 @@
 ghost use Rattle.std.specs.Prelude.{◌≤◌};
 ghost use Rattle.kk_base.specs.Sizes.{greatest_cells};
 
+use crate::simulator::{loaded, run};
 use cell_runtime::text;
-use elf_image::Image;
-use kk_base::{Bytes, GREATEST_CELLS};
+use kk_base::GREATEST_CELLS;
 use kk_memio::{MemSink, MemSource};
 use rv_isa::{Immediate, Instr, Native, Register, UpperImmediate, encode};
-use rv_sim::{Halt, Machine};
+use rv_sim::Halt;
 use std::alloc::Global;
-use std::process::Abort;
 use std::test::Fail;
 
 const PRINTS: [u32; 12] = [
@@ -429,20 +428,16 @@ static ROWS: [Row; 14] = [
 /// The begin of the memory part: the text has less than a page.
 const MEMORY: u32 = 0x0001_1000;
 
-fn push_word(bytes: &mut Vec<u8>, word: u32) -> Result<(), Fail> {
-    bytes.extend_from_slice(&word.to_le_bytes())?;
-    Ok(())
-}
-
 /// The two instructions by which a register becomes an address of the memory part.
 fn push_address(bytes: &mut Vec<u8>, rd: Register, offset: u32) -> Result<(), Fail> {
     let address = MEMORY.wrapping_add(offset);
     let rounded = address.wrapping_add(0x800);
     let upper = rounded - rounded % 0x1000;
     let imm = UpperImmediate::try_new(upper).ok_or("no upper immediate")?;
-    push_word(bytes, encode(Instr::Lui { rd, imm }))?;
+    bytes.extend_from_slice(&encode(Instr::Lui { rd, imm }).to_le_bytes())?;
     let imm = Immediate::try_new(address.wrapping_sub(upper)).ok_or("no immediate")?;
-    push_word(bytes, encode(Instr::Addi { rd, rs1: rd, imm }))
+    bytes.extend_from_slice(&encode(Instr::Addi { rd, rs1: rd, imm }).to_le_bytes())?;
+    Ok(())
 }
 
 /// The bytes of the text, and of its memory how many there are.
@@ -453,36 +448,19 @@ fn program(alloc: Global, cells: u32, main: &[&[u32]]) -> Result<(Vec<u8>, u32),
     let mut bytes = Vec::new(alloc);
     for line in placed.natives().iter() {
         match line {
-            Native::Instruction(instruction) => push_word(&mut bytes, encode(*instruction))?,
+            Native::Instruction(instruction) => {
+                bytes.extend_from_slice(&encode(*instruction).to_le_bytes())?
+            }
             Native::Address { rd, offset, .. } => push_address(&mut bytes, *rd, *offset)?,
             _ => {}
         }
     }
     for piece in main {
         for word in *piece {
-            push_word(&mut bytes, *word)?;
+            bytes.extend_from_slice(&word.to_le_bytes())?;
         }
     }
     Ok((bytes, placed.memory().size))
-}
-
-fn check(rt: &impl Abort, alloc: Global, row: &Row) -> Result<(), Fail> {
-    assert!(rt; row.cells <= GREATEST_CELLS);
-    let (bytes, memory) = program(alloc, row.cells, row.main)?;
-    let size = bytes.len();
-    assert!(rt; size > 0 && size < 0x1000);
-    assert!(rt; memory > 0 && memory < 0x1000_0000);
-    let image = Image::program(alloc, Bytes::from_vec(bytes), memory)?;
-    let mut machine = Machine::load(alloc, &image)?;
-    let mut input = MemSource::new(alloc, row.input, &[])?;
-    let mut out = MemSink::new(alloc, 100, &[])?;
-    assert_eq!(rt;
-        machine.run(10_000_000, &mut input, &mut out),
-        Halt::Exit(row.exit)
-    );
-    assert_eq!(rt; out.held_bytes(), row.output);
-    assert_eq!(rt; machine.free_cells(row.cells), row.free);
-    Ok(())
 }
 
 #[test]
@@ -497,7 +475,17 @@ fn largest_text(rt: HostRuntime) -> Result<(), Fail> {
 #[test]
 fn routines(rt: HostRuntime) -> Result<(), Fail> {
     for row in ROWS.iter() {
-        check(&rt, rt.alloc(), row)?;
+        assert!(rt; row.cells <= GREATEST_CELLS);
+        let (bytes, memory) = program(rt.alloc(), row.cells, row.main)?;
+        let mut machine = loaded(&rt, rt.alloc(), bytes, memory)?;
+        let mut input = MemSource::new(rt.alloc(), row.input, &[])?;
+        let mut out = MemSink::new(rt.alloc(), 100, &[])?;
+        assert_eq!(rt;
+            run(&mut machine, 10_000_000, &mut input, &mut out),
+            Some(Halt::Exit(row.exit))
+        );
+        assert_eq!(rt; out.held_bytes(), row.output);
+        assert_eq!(rt; machine.free_cells(row.cells), row.free);
     }
     Ok(())
 }

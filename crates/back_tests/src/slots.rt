@@ -23,7 +23,7 @@ fn statement(
 }
 
 /// A function that returns the sum of its two parameters and, once more, of the first.
-fn sum_of_two(alloc: Global) -> Result<Asm, NoMemory>
+pub(crate) fn sum_of_two(alloc: Global) -> Result<Asm, NoMemory>
     ensures { IfOk result (λ asm. AreWellFormed (asm_functions asm)) }
 {
     let add = Action::Compute(Operation::Register(RegisterOperation::Add));
@@ -61,13 +61,6 @@ fn drop_and_return(alloc: Global) -> Result<Asm, NoMemory>
     })
 }
 
-fn is_move(item: &Item) -> bool {
-    match item {
-        Item::Does { .. } => false,
-        Item::Moves { .. } => true,
-    }
-}
-
 /// Parameters stay where they come, and a result comes to where it is returned, so nothing is moved.
 #[test]
 fn values_stay_in_registers(rt: HostRuntime) -> Result<(), Fail> {
@@ -78,19 +71,9 @@ fn values_stay_in_registers(rt: HostRuntime) -> Result<(), Fail> {
     let code = &placed.functions()[0].code;
     assert_eq!(rt; code.len(), 3);
     for item in code {
-        assert!(rt; !is_move(item));
+        assert!(rt; matches!(item, Item::Does { .. }));
     }
     Ok(())
-}
-
-fn is_copy(item: &Item) -> bool {
-    matches!(
-        item,
-        Item::Moves {
-            way: Way::Copy { .. },
-            ..
-        }
-    )
 }
 
 /// A drop spoils the register in which it takes its argument. A value that is read on behind it has a copy in another one, and comes
@@ -103,7 +86,23 @@ fn a_value_is_read_on_behind_a_drop(rt: HostRuntime) -> Result<(), Fail> {
     assert_eq!(rt; placed.functions().len(), 1);
     let code = &placed.functions()[0].code;
     assert_eq!(rt; code.len(), 4);
-    assert!(rt; is_copy(&code[0]));
-    assert!(rt; is_copy(&code[2]));
+    assert!(rt;
+        matches!(
+            code[0],
+            Item::Moves {
+                way: Way::Copy { .. },
+                ..
+            }
+        )
+    );
+    assert!(rt;
+        matches!(
+            code[2],
+            Item::Moves {
+                way: Way::Copy { .. },
+                ..
+            }
+        )
+    );
     Ok(())
 }
