@@ -44,8 +44,8 @@ impl<'a> Meaning<'a> {
         Meaning::of_program(alloc, &accepted.typed.program, cells, depth)
     }
 
-    /// The same of any program, be it accepted or not.
-    pub fn of_program(
+    // The same of any program, be it accepted or not.
+    fn of_program(
         alloc: Global,
         program: &'a Program,
         cells: u32,

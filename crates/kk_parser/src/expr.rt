@@ -375,7 +375,7 @@ impl<'a> Parser<'a> {
         Ok(arguments)
     }
 
-    // Whether an expression begins with the next token.
+    /// Whether an expression begins with the next token.
     pub fn is_at_expr(&self) -> bool
         ensures { result ≡ is_at expr_first self.now.rest.now }
     {

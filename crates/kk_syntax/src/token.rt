@@ -110,6 +110,7 @@ impl Tokens {
         items
     }
 
+    /// The tokens, in their order in the text.
     pub fn as_slice(&self) -> &[LocatedToken]
         ensures { result.now ≡ self.now.items }
     {

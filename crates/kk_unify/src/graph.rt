@@ -38,6 +38,7 @@ impl Graph {
         }
     }
 
+    /// How many nodes the graph has.
     pub fn len(&self) -> usize
         ensures { result ≡ length (graph_of self.now) }
     {

@@ -5,18 +5,21 @@ ghost use Rattle.rv_isa.specs.Arithmetic.{shift_left, shift_right_logical, shift
 
 // The shifts take the lower five bits of the amount.
 
+/// `sll`: zeros come in from the right.
 pub fn shift_left(a: u32, b: u32) -> u32
     ensures { result ≡ shift_left a b }
 {
     a << (b % 32)
 }
 
+/// `srl`: zeros come in from the left.
 pub fn shift_right_logical(a: u32, b: u32) -> u32
     ensures { result ≡ shift_right_logical a b }
 {
     a >> (b % 32)
 }
 
+/// `sra`: copies of the sign bit come in from the left.
 pub fn shift_right_arithmetic(a: u32, b: u32) -> u32
     ensures { result ≡ shift_right_arithmetic a b }
 {
@@ -25,6 +28,7 @@ pub fn shift_right_arithmetic(a: u32, b: u32) -> u32
 
 // The upper halves of products.
 
+/// `mulh`: of two signed numbers.
 pub fn upper_signed(a: u32, b: u32) -> u32
     ensures { result ≡ upper_signed a b }
 {
@@ -32,6 +36,7 @@ pub fn upper_signed(a: u32, b: u32) -> u32
     ((product >> 32) as i32).cast_unsigned()
 }
 
+/// `mulhsu`: of a signed number and an unsigned one.
 pub fn upper_signed_unsigned(a: u32, b: u32) -> u32
     ensures { result ≡ upper_signed_unsigned a b }
 {
@@ -39,6 +44,7 @@ pub fn upper_signed_unsigned(a: u32, b: u32) -> u32
     ((product >> 32) as i32).cast_unsigned()
 }
 
+/// `mulhu`: of two unsigned numbers.
 pub fn upper_unsigned(a: u32, b: u32) -> u32
     ensures { result ≡ upper_unsigned a b }
 {
@@ -47,6 +53,7 @@ pub fn upper_unsigned(a: u32, b: u32) -> u32
 
 // Division by zero gives all ones and leaves the dividend.
 
+/// `div`: the quotient of signed numbers, rounded towards zero.
 pub fn quotient_signed(a: u32, b: u32) -> u32
     ensures { result ≡ quotient_signed a b }
 {
@@ -59,12 +66,14 @@ pub fn quotient_signed(a: u32, b: u32) -> u32
     }
 }
 
+/// `divu`: the quotient of unsigned numbers.
 pub fn quotient_unsigned(a: u32, b: u32) -> u32
     ensures { result ≡ quotient_unsigned a b }
 {
     if b == 0 { u32::MAX } else { a / b }
 }
 
+/// `rem`: the remainder of signed numbers, with the sign of the dividend.
 pub fn remainder_signed(a: u32, b: u32) -> u32
     ensures { result ≡ remainder_signed a b }
 {
@@ -77,6 +86,7 @@ pub fn remainder_signed(a: u32, b: u32) -> u32
     }
 }
 
+/// `remu`: the remainder of unsigned numbers.
 pub fn remainder_unsigned(a: u32, b: u32) -> u32
     ensures { result ≡ remainder_unsigned a b }
 {

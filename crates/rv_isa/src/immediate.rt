@@ -12,6 +12,7 @@ pub struct Immediate {
 }
 
 impl Immediate {
+    /// The immediate 0.
     pub const ZERO: Immediate = Immediate { word: 0 };
 
     /// The immediate that is `word` after sign extension.
