@@ -1,5 +1,5 @@
 // Twenty pairs of places of a chain, 20 apart, with four rows for each pair. The rows cover every chain, which is decided before nodes are
-// counted: else the refusal would tell a chain. A row has 82 nodes, 81 of them in its pattern, and the match has 2 more.
+// counted: were a chain left out, the refusal would name it. A row has 82 nodes, 81 of them in its pattern, and the match has 2 more.
 type chain { Link(on: bool, rest: chain) }
 
 fun look(c: chain): ()

@@ -1,4 +1,4 @@
-// Types that stand nowhere in the text: of the items of an empty list, and of the values in a row.
+// Types that the text does not write: of an empty list, and of variables in patterns. `opposite` has operators in an `if`.
 type list<a> { Nil; Cons(head: a, tail: list<a>) }
 type pair<a,b> { Pair(left: a, right: b) }
 
