@@ -1,4 +1,4 @@
-// Which files are no images, and for what reason, examples/headers.rows and examples/segments.rows show.
+// Which files are no images, and for what reason, tests/examples shows.
 
 use elf_image::{Image, read, write};
 use kk_base::Bytes;
@@ -11,12 +11,19 @@ static LINKED: [u8; 180] = [
     0, 0, 1, 0, // entry: 0x10000
     52, 0, 0, 0, 0, 0, 0, 0, 0, 0, 0, 0, // program headers, section headers, flags
     52, 0, 32, 0, 4, 0, 0, 0, 0, 0, 0, 0, // sizes and numbers
-    // PT_RISCV_ATTRIBUTES, two PT_LOADs, and PT_GNU_STACK: type, offset, addresses, bytes, addresses, flags, alignment.
+    // Each program header: type, offset, virtual and physical address, bytes in the file and in memory, flags, alignment.
+    // PT_RISCV_ATTRIBUTES
     3, 0, 0, 0x70, 0, 2, 0, 0, 0, 0, 0, 0, 0, 0, 0, 0, 0x1b, 0, 0, 0, 0, 0, 0, 0, 4, 0, 0, 0, 0,
-    16, 0, 0, 1, 0, 0, 0, 0, 0, 0, 0, 0, 0, 1, 0, 0, 0, 0, 0, 180, 0, 0, 0, 180, 0, 0, 0, 5, 0, 0,
-    0, 0, 16, 0, 0, 1, 0, 0, 0, 0xb0, 0, 0, 0, 0xb0, 0x10, 1, 0, 0, 0, 0, 0, 4, 0, 0, 0, 12, 0, 0,
-    0, 6, 0, 0, 0, 0, 16, 0, 0, 0x51, 0xe5, 0x74, 0x64, 0, 0, 0, 0, 0, 0, 0, 0, 0, 0, 0, 0, 0, 0,
-    0, 0, 0, 0, 0, 0, 6, 0, 0, 0, 0, 16, 0, 0,
+    16, 0, 0,
+    // PT_LOAD of the text
+    1, 0, 0, 0, 0, 0, 0, 0, 0, 0, 1, 0, 0, 0, 0, 0, 180, 0, 0, 0, 180, 0, 0, 0, 5, 0, 0, 0, 0, 16,
+    0, 0,
+    // PT_LOAD of the data
+    1, 0, 0, 0, 0xb0, 0, 0, 0, 0xb0, 0x10, 1, 0, 0, 0, 0, 0, 4, 0, 0, 0, 12, 0, 0, 0, 6, 0, 0, 0,
+    0, 16, 0, 0,
+    // PT_GNU_STACK
+    0x51, 0xe5, 0x74, 0x64, 0, 0, 0, 0, 0, 0, 0, 0, 0, 0, 0, 0, 0, 0, 0, 0, 0, 0, 0, 0, 6, 0, 0, 0,
+    0, 16, 0, 0,
 ];
 
 #[test]

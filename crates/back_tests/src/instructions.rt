@@ -1,4 +1,4 @@
-// Words worked out by hand from the manual. What instructions do, and which words are none, examples/images.words shows.
+// Words worked out by hand from the manual. What instructions do, and which words are no instructions, examples/images.words shows.
 
 use rv_isa::{
     BranchOffset, Immediate, Instr, JumpOffset, Register, ShiftAmount, UpperImmediate, decode,

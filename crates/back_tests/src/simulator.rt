@@ -1,4 +1,4 @@
-//! Runs in several parts, devices that fail, and the cells that are free. What one run comes to, examples/images.words shows.
+//! Runs in several parts, devices that fail, and the cells that are free. What one run comes to, tests/examples shows.
 
 use elf_image::Image;
 use kk_base::Bytes;
@@ -129,6 +129,7 @@ fn several_runs_are_one(rt: HostRuntime) -> Result<(), Fail> {
 #[test]
 fn devices_that_fail(rt: HostRuntime) -> Result<(), Fail> {
     // Reads a byte; reads none; puts the first three bytes of the text twice.
+    // lui a1, 0x11, and li a2, 1
     let byte = [READ, 0x0001_15b7, 0x0010_0613, ECALL, EXIT, ECALL];
     let none = [READ, A1_TEXT, 0x0000_0613, ECALL, EXIT, ECALL];
     let twice = [

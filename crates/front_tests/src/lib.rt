@@ -1,5 +1,5 @@
 //! Tests of the public calls on tokens, on types that are made equal, on owned parameters and on texts that are made: tests alone.
-//! Texts with what the program answers stand in examples/, as those of types and of coverage.
+//! Texts with what the program answers, on types and on coverage too, stand in examples/.
 #![tactic(auto)]
 
 #[cfg(test)]
