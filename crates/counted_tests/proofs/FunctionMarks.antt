@@ -107,20 +107,6 @@ last_marked = (
 
 -- ---- on boxes, whose field is a box
 
--- it builds a box of what it gives for what was inside
-pub again_marked : CanBeMarked (table_of ((true ∷ []) ∷ [])) 0
-    (with_body (if_unique 0 0 (1 ∷ []) (1 ∷ []) (compute 2 (Call 0) (1 ∷ []) (compute 3 (Construct 0) (2 ∷ []) (give 3)))))
-again_marked = (
-  λ x. true,
-  record {
-    parameters_marked = (refl, tt);
-    body_marked = (
-      (refl, (refl, (refl, tt))),
-      ((refl, tt), (((refl, tt), refl), ((refl, tt), (((refl, tt), refl), (refl, refl))))),
-    );
-  },
-)
-
 -- by what was inside it gives that, or calls itself on it last
 pub innermost_marked : (decisions : List NodeTree) → CanBeMarked (table_of ((true ∷ []) ∷ [])) 0
     (with_body (if_unique 0 0 (1 ∷ []) (1 ∷ []) (case 1 decisions (arm (give 1) (arm (tail_call 0 (1 ∷ [])) no_arm)))))

@@ -332,12 +332,45 @@ fn called_and_filled(
     ensures failed { OnErr result ((counted_of emitter.new).failed ≡ true) }
 {
     match called_again(alloc, emitter, rest) {
-        Ok(value) => filled(alloc, emitter, spare, 0, sum, value),
+        Ok(value) => refilled(alloc, emitter, spare, sum, value),
         Err(error) => {
             lose(emitter, sum);
             lose_token(emitter, spare);
             Err(error)
         }
+    }
+}
+
+/// Builds a cell of two fields in the cell of the only token, all of whose fields are written.
+fn refilled(
+    alloc: Global,
+    emitter: &mut TokenEmitter<'_>,
+    spare: Spare,
+    first: Owed,
+    second: Owed,
+) -> Result<Owed, NoMemory>
+    requires writes { Writes (counted_of emitter.old) }
+    requires has { HasSpare (counted_of emitter.old) (tokens_of emitter.old) spare.emitter spare.slot }
+    requires alone { (counted_of emitter.old).failed ≡ false → without (spare.slot ∷ []) (tokens_of emitter.old).spare ≡ [] }
+    requires owns { OwnsAll (counted_of emitter.old) first.emitter (first.variable ∷ second.variable ∷ []) }
+    requires of { first.emitter ≡ second.emitter }
+    requires fields { HasFields (counted_of emitter.old) 0 2 }
+    ensures going { OnOk result ((counted_of emitter.old).failed ≡ false) }
+    ensures ok { OnOk result (counted_of emitter.new ≡ computed (counted_of emitter.old) (Form.Construct 0) (first.variable ∷ second.variable ∷ []) (first.variable ∷ second.variable ∷ [])) }
+    ensures tokens { OnOk result (tokens_of emitter.new ≡ record (tokens_of emitter.old) { moves = (tokens_of emitter.new).moves; spare = [] }) }
+    ensures owed { IfOk result (λ owed. (owed.emitter ≡ (counted_of emitter.old).instance) × (owed.variable ≡ (counted_of emitter.old).next)) }
+    ensures failed { OnErr result ((counted_of emitter.new).failed ≡ true) }
+{
+    let fields = match two_fields(alloc, emitter, first, second) {
+        Ok(fields) => fields,
+        Err(error) => {
+            lose_token(emitter, spare);
+            return Err(error);
+        }
+    };
+    match emitter.construct_in(spare, 0, fields) {
+        Ok(built) => Ok(built),
+        Err(kept) => Err(abandoned(emitter, kept)),
     }
 }
 

@@ -1,5 +1,5 @@
 -- What the arguments of the line and its command are for clap, setting by setting.
-use Rattle.std.proofs.Common.{◌≡◌, ℕ, true, Some, ap, codes, ◌∙◌}
+use Rattle.std.proofs.Common.{◌≡◌, ℕ, true, Some, ap, codes, ◌∙◌, subst}
 use Rattle.std.specs.Prelude.{Result, Ok, Err, IfOk, IsOkAnd}
 use Rattle.std.specs.Borrow.{Bor}
 use Rattle.clap.specs.Words.{App, Rule, Text, app_of, rule_of, with_rule, with_subcommand}
@@ -37,14 +37,19 @@ module _ (before after : Command) (app : App) (is : app_of before ≡ app) where
 abbrev pub IsLike : {E : Type 0} → Result Command E → App → Type 0
 IsLike made app = IfOk made (λ c. app_of c ≡ app)
 
+-- what a step makes of a command, and so of its line
+pub with_step : {E : Type 0} (command result : Result Command E) (change : App → App) (app : App)
+    → IfOk result (λ r. IsOkAnd command (λ c. app_of r ≡ change (app_of c))) → IsLike command app → IsLike result (change app)
+with_step command (Err e) change app made one = tt
+with_step (Err e) (Ok r) change app made one = absurd made
+with_step (Ok c) (Ok r) change app made one = made ∙ ap change one
+
 -- a command of a line and an argument of a rule, and the command with the argument
 pub with_argument : {E : Type 0} (command result : Result Command E) (argument : Arg) (app : App) (rule : Rule)
     → IfOk result (λ r. IsOkAnd command (λ c. app_of r ≡ with_rule (app_of c) (rule_of argument)))
     → IsLike command app → rule_of argument ≡ rule → IsLike result (with_rule app rule)
-with_argument command (Err e) argument app rule added one other = tt
-with_argument (Err e) (Ok r) argument app rule added one other = absurd added
-with_argument (Ok c) (Ok r) argument app rule added one other =
-    added ∙ (ap (λ a. with_rule a (rule_of argument)) one ∙ ap (λ (r : Rule). with_rule app r) other)
+with_argument command result argument app rule added one other =
+    subst (λ (r : Rule). IsLike result (with_rule app r)) other (with_step command result (λ a. with_rule a (rule_of argument)) app added one)
 
 -- a command, and the command with the arguments of the sizes, one added after the other
 pub with_both_sizes : {E : Type 0} (command first result : Result Command E) (cells depth : Arg)
@@ -58,13 +63,6 @@ with_both_sizes (Err e) (Ok f) (Ok r) cells depth one other are_cells are_depth 
 with_both_sizes (Ok c) (Ok f) (Ok r) cells depth one other are_cells are_depth =
     let first = one ∙ ap (λ (rule : Rule). with_rule (app_of c) rule) are_cells in
     other ∙ (ap (λ a. with_rule a (rule_of depth)) first ∙ ap (λ (rule : Rule). with_rule (with_rule (app_of c) (optional (codes "cells"))) rule) are_depth)
-
--- a command of a line, and the command with the sizes
-pub with_size_arguments : {E : Type 0} (command result : Result Command E) (app : App)
-    → IfOk result (λ r. IsOkAnd command (λ c. app_of r ≡ with_sizes (app_of c))) → IsLike command app → IsLike result (with_sizes app)
-with_size_arguments command (Err e) app added one = tt
-with_size_arguments (Err e) (Ok r) app added one = absurd added
-with_size_arguments (Ok c) (Ok r) app added one = added ∙ ap with_sizes one
 
 -- a program and a command of these lines, and the program with the command
 pub with_line : {E : Type 0} (program command result : Result Command E) (app line : App)

@@ -1,5 +1,0 @@
-//! Tests of what decides a match: tests alone.
-#![tactic(auto)]
-
-#[cfg(test)]
-mod decisions;
