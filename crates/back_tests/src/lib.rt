@@ -1,4 +1,5 @@
-//! Tests of the public calls below the program's back end, and of the devices in memory: tests alone.
+//! Tests of the public calls of rv_isa, of cell_runtime, of elf_image, of rv_regs and of rv_sim, and of the devices in memory: tests
+//! alone.
 #![tactic(auto)]
 
 #[cfg(test)]

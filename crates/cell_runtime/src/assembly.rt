@@ -20,6 +20,7 @@ pub fn minus_one() -> Immediate
     Immediate::new(0xffff_ffff)
 }
 
+/// `rd` = the address of the data section's byte at an offset.
 pub fn address(rd: Register, offset: u32) -> Native
     ensures { result ≡ Native.Address rd Section.Data offset }
 {
@@ -30,6 +31,7 @@ pub fn address(rd: Register, offset: u32) -> Native
     }
 }
 
+/// `rd = rs1 + imm`.
 pub fn addi(rd: Register, rs1: Register, imm: Immediate) -> Native
     ensures { result ≡ Native.Instruction (Instr.Addi rd rs1 imm) }
 {
@@ -44,48 +46,56 @@ pub fn set(rd: Register, number: u32) -> Native
     addi(rd, Register::ZERO, small(number))
 }
 
+/// `rd = rs1 + rs2`.
 pub fn add(rd: Register, rs1: Register, rs2: Register) -> Native
     ensures { result ≡ Native.Instruction (Instr.Add rd rs1 rs2) }
 {
     Native::Instruction(Instr::Add { rd, rs1, rs2 })
 }
 
+/// `rd = rs1 - rs2`.
 pub fn sub(rd: Register, rs1: Register, rs2: Register) -> Native
     ensures { result ≡ Native.Instruction (Instr.Sub rd rs1 rs2) }
 {
     Native::Instruction(Instr::Sub { rd, rs1, rs2 })
 }
 
+/// `rd = rs1 / rs2`, of unsigned numbers.
 pub fn divu(rd: Register, rs1: Register, rs2: Register) -> Native
     ensures { result ≡ Native.Instruction (Instr.Divu rd rs1 rs2) }
 {
     Native::Instruction(Instr::Divu { rd, rs1, rs2 })
 }
 
+/// `rd = rs1 % rs2`, of unsigned numbers.
 pub fn remu(rd: Register, rs1: Register, rs2: Register) -> Native
     ensures { result ≡ Native.Instruction (Instr.Remu rd rs1 rs2) }
 {
     Native::Instruction(Instr::Remu { rd, rs1, rs2 })
 }
 
+/// Loads the byte at `rs1 + imm`.
 pub fn lbu(rd: Register, rs1: Register, imm: Immediate) -> Native
     ensures { result ≡ Native.Instruction (Instr.Lbu rd rs1 imm) }
 {
     Native::Instruction(Instr::Lbu { rd, rs1, imm })
 }
 
+/// Loads the word at `rs1 + imm`.
 pub fn lw(rd: Register, rs1: Register, imm: Immediate) -> Native
     ensures { result ≡ Native.Instruction (Instr.Lw rd rs1 imm) }
 {
     Native::Instruction(Instr::Lw { rd, rs1, imm })
 }
 
+/// Stores the lowest byte of `rs2` at `rs1 + imm`.
 pub fn sb(rs2: Register, imm: Immediate, rs1: Register) -> Native
     ensures { result ≡ Native.Instruction (Instr.Sb rs1 rs2 imm) }
 {
     Native::Instruction(Instr::Sb { rs1, rs2, imm })
 }
 
+/// Stores the word `rs2` at `rs1 + imm`.
 pub fn sw(rs2: Register, imm: Immediate, rs1: Register) -> Native
     ensures { result ≡ Native.Instruction (Instr.Sw rs1 rs2 imm) }
 {
@@ -118,12 +128,14 @@ pub fn beq(rs1: Register, rs2: Register, label: u32) -> Native
     branch(Condition::Equal, rs1, rs2, label)
 }
 
+/// Goes to the label where `rs1` and `rs2` differ.
 pub fn bne(rs1: Register, rs2: Register, label: u32) -> Native
     ensures { result ≡ Native.Branch Condition.NotEqual rs1 rs2 (Symbol.Local label) }
 {
     branch(Condition::NotEqual, rs1, rs2, label)
 }
 
+/// Goes to the label where `rs1` is at least `rs2`, as signed numbers.
 pub fn bge(rs1: Register, rs2: Register, label: u32) -> Native
     ensures { result ≡ Native.Branch Condition.GreaterEqual rs1 rs2 (Symbol.Local label) }
 {
@@ -137,12 +149,14 @@ pub fn ecall() -> Native
     Native::Instruction(Instr::Ecall)
 }
 
+/// Jumps by an offset, and leaves the way back in `rd`.
 pub fn jal(rd: Register, offset: JumpOffset) -> Native
     ensures { result ≡ Native.Instruction (Instr.Jal rd offset) }
 {
     Native::Instruction(Instr::Jal { rd, offset })
 }
 
+/// Jumps to `rs1 + imm`, and leaves the way back in `rd`.
 pub fn jalr(rd: Register, rs1: Register, imm: Immediate) -> Native
     ensures { result ≡ Native.Instruction (Instr.Jalr rd rs1 imm) }
 {

@@ -47,18 +47,21 @@ impl<T: Drop> Items<T> {
         items
     }
 
+    /// The items as a slice, in their order.
     pub fn as_slice(&self) -> &[T]
         ensures { result.now ≡ self.now }
     {
         self.items.as_slice()
     }
 
+    /// How many items there are.
     pub fn len(&self) -> usize
         ensures { result ≡ length self.now }
     {
         self.items.len()
     }
 
+    /// Whether there is no item.
     pub fn is_empty(&self) -> bool
         ensures { result ≡ (length self.now == 0) }
     {

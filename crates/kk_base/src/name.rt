@@ -35,6 +35,7 @@ impl Name {
         }
     }
 
+    /// The name as it is written.
     pub fn as_str(&self) -> &str
         ensures { result.now ≡ self.now }
     {

@@ -1,4 +1,4 @@
--- What the private functions of a run by the store machine speak of: the machine between two of its steps.
+-- What the run by the store machine, and its private functions, speak of: the machine between two of its steps.
 use Rattle.std.specs.Prelude.{◌≡◌, ◌≢◌, ◌⊎◌, ◌≤◌, ◌<◌, ℕ, List, [], ◌∷◌, ◌++◌, take, length, Bool, false, Option, None, Some, option_map, Result, Ok, Err}
 use Rattle.kk_base.specs.declared.error.NoMemory.{NoMemory}
 use Rattle.kk_base.specs.Faults.{Rose}

@@ -12,6 +12,7 @@ pub enum Block {
 }
 
 impl Block {
+    /// The column of its lines.
     pub fn column(self) -> u32
         ensures { result ≡ column_of self }
     {
@@ -20,6 +21,7 @@ impl Block {
         }
     }
 
+    /// Whether layout has opened it.
     pub fn is_implicit(self) -> bool
         ensures { result ≡ is_implicit self }
     {

@@ -36,6 +36,7 @@ pub struct Graph<'a> {
 }
 
 impl<'a> Graph<'a> {
+    /// A graph without states and nodes.
     pub fn new(alloc: Global) -> Self
         ensures { graph_tree result ≡ record { states = []; nodes = []; tests = 0 } }
     {

@@ -25,7 +25,7 @@ use kk_syntax::{Form, Fun, Program};
 
 // In what follows `older` is the number of frames without that of the form, if the form has one.
 impl<'a> Machine<'a> {
-    // A form has all its arguments.
+    /// A form has all its arguments.
     pub fn finish(&mut self, form: Form, values: Vec<Value>, older: usize) -> Result<Turn, NoMemory>
         requires fits { Fits self.old }
         requires store { IsOlder (configuration_of self.old).store }
@@ -64,7 +64,7 @@ impl<'a> Machine<'a> {
         }
     }
 
-    // A form has its value, and its frame is given up.
+    /// A form has its value, and its frame is given up.
     pub fn give_back(&mut self, value: Value, older: usize) -> Turn
         requires fits { Fits self.old }
         requires below { IsBelow older self.old.frames.items }

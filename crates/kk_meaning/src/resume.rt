@@ -20,7 +20,7 @@ use kk_syntax::{Expr, Row};
 use std::alloc::Global;
 
 impl<'a> Machine<'a> {
-    // The step at a value: the newest frame has waited for it.
+    /// The step at a value: the newest frame has waited for it.
     pub fn resume(&mut self, value: Value) -> Result<Turn, NoMemory>
         requires fits { Fits self.old }
         requires at { (configuration_of self.old).control ≡ at (value_view value) }

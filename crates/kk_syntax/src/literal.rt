@@ -40,6 +40,7 @@ impl StringLiteral {
         })
     }
 
+    /// The bytes of the string after escapes, at most 255.
     pub fn as_slice(&self) -> &[u8]
         ensures bytes { result.now ≡ self.now }
         ensures short { length result.now ≤ greatest_string }

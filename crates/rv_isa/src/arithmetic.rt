@@ -26,9 +26,7 @@ pub fn shift_right_arithmetic(a: u32, b: u32) -> u32
     (a.cast_signed() >> (b % 32)).cast_unsigned()
 }
 
-// The upper halves of products.
-
-/// `mulh`: of two signed numbers.
+/// `mulh`: the upper half of the product of two signed numbers.
 pub fn upper_signed(a: u32, b: u32) -> u32
     ensures { result ≡ upper_signed a b }
 {
@@ -36,7 +34,7 @@ pub fn upper_signed(a: u32, b: u32) -> u32
     ((product >> 32) as i32).cast_unsigned()
 }
 
-/// `mulhsu`: of a signed number and an unsigned one.
+/// `mulhsu`: the upper half of the product of a signed number and an unsigned one.
 pub fn upper_signed_unsigned(a: u32, b: u32) -> u32
     ensures { result ≡ upper_signed_unsigned a b }
 {
@@ -44,7 +42,7 @@ pub fn upper_signed_unsigned(a: u32, b: u32) -> u32
     ((product >> 32) as i32).cast_unsigned()
 }
 
-/// `mulhu`: of two unsigned numbers.
+/// `mulhu`: the upper half of the product of two unsigned numbers.
 pub fn upper_unsigned(a: u32, b: u32) -> u32
     ensures { result ≡ upper_unsigned a b }
 {

@@ -217,6 +217,7 @@ impl Head {
     }
 }
 
+/// A copy of what is listed as alive, or that memory was refused.
 pub fn copy_of_listed(alloc: Global, alive: &[Listed]) -> Result<Vec<Listed>, NoMemory>
     ensures { IfOk result (λ copy. copy.items ≡ alive.now) }
 {
@@ -226,6 +227,7 @@ pub fn copy_of_listed(alloc: Global, alive: &[Listed]) -> Result<Vec<Listed>, No
     }
 }
 
+/// A copy of a list of operands, or that memory was refused.
 pub fn copy_of_operands(alloc: Global, operands: &[Operand]) -> Result<Vec<Operand>, NoMemory>
     ensures { IfOk result (λ copy. copy.items ≡ operands.now) }
 {

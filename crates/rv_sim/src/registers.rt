@@ -29,6 +29,7 @@ impl Registers {
         Registers { words: [0; 32] }
     }
 
+    /// The word in a register.
     pub fn get(&self, register: Register) -> u32
         ensures { result ≡ value (registers_of self.now) register.number }
     {
