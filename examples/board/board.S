@@ -19,6 +19,8 @@
         .equ    MAY_SEND, 0x20
         .equ    END_OF_INPUT, 4             # Ctrl-D: a serial line has no end of its own
 
+        .equ    ENDED, 16                   # of `saved`, behind four registers: whether the input has ended
+
         .equ    POWER, 0x00100000           # ends the emulator, with a status
         .equ    POWER_OFF, 0x5555           # with status 0
         .equ    POWER_FAIL, 0x3333          # with the status in the upper half
@@ -34,6 +36,7 @@ _start:
         csrw    mtvec, t0
         la      t0, saved
         csrw    mscratch, t0
+        sw      zero, ENDED(t0)
 
         # user mode may use all of the memory that the page table maps
         li      t0, -1
@@ -125,19 +128,23 @@ write:
 3:      mv      a0, a2
         j       back
 
-# read: one byte to the address a1, and 1 in a0; or 0 at the end of the input
+# read: one byte to the address a1, and 1 in a0; or 0 at the end of the input, and at each later read
 read:
+        li      a0, 0
+        lw      t2, ENDED(sp)
+        bnez    t2, back
 1:      lbu     t2, SERIAL_STATE(t3)
         andi    t2, t2, BYTE_CAME
         beqz    t2, 1b
         lbu     t2, 0(t3)
-        li      a0, 0
         li      t0, END_OF_INPUT
-        beq     t2, t0, back
+        beq     t2, t0, end
         li      t0, RAM
         add     t0, t0, a1
         sb      t2, 0(t0)
         li      a0, 1
+        j       back
+end:    sw      t0, ENDED(sp)
 
 back:
         lw      t0, 0(sp)
@@ -150,7 +157,7 @@ back:
         .section .bss
         .balign 4096
 table:  .space  4096
-saved:  .space  16
+saved:  .space  20
 
 # ---- the image: its raw bytes, which begin at offset 0x1000 of its file
 

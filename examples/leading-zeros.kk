@@ -1,0 +1,3 @@
+fun main()
+  println(010)
+  println(-010)
