@@ -9,7 +9,8 @@ ENDED, HEAP_FULL, STACK_FULL = 0, 10, 11
 GREATEST_STEPS = 60_000
 
 
-# ---- trees: a form is a tuple of its kind and its parts. `&&` and `||` are the `if` that they mean, which has them as a last part.
+# ---- trees: a form is a tuple of its kind and its parts. `&&` and `||` are the `if` that they mean, which has them as a last part; a
+# call that is written with a dot has that as a last part.
 
 
 def number(value):
