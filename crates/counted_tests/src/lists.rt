@@ -1,6 +1,6 @@
 //! Functions on pairs and lists: each call of an emitter of code with tokens writes the steps that are expected.
 
-ghost use Rattle.std.specs.Prelude.{◌≡◌, ◌∷◌, [], true, false, pos, IfOk, OnOk, OnErr};
+ghost use Rattle.std.specs.Prelude.{◌≡◌, ◌∷◌, [], true, false, pos, IfOk, IfSome, OnOk, OnErr};
 ghost use Rattle.kk_syntax.specs.Shapes.{without};
 ghost use Rattle.kk_syntax.specs.declared.positions.Ownership.TheVariants.{Owned, Lent};
 ghost use Rattle.kk_counted.specs.InstancePositions.{positions_in};
@@ -54,19 +54,20 @@ fn two_fields(
     Ok(fields)
 }
 
-/// Builds a cell of two fields in the cell of the only token, which has the fields that the mask names.
+/// Builds a cell of two fields in the cell of the only token. Where there is a mask the cell has the fields that it names, and else
+/// all fields are written.
 fn filled(
     alloc: Global,
     emitter: &mut TokenEmitter<'_>,
     spare: Spare,
-    keep: u8,
+    keep: Option<u8>,
     first: Owed,
     second: Owed,
 ) -> Result<Owed, NoMemory>
     requires writes { Writes (counted_of emitter.old) }
     requires has { HasSpare (counted_of emitter.old) (tokens_of emitter.old) spare.emitter spare.slot }
     requires alone { (counted_of emitter.old).failed ≡ false → without (spare.slot ∷ []) (tokens_of emitter.old).spare ≡ [] }
-    requires known { HasKnown (counted_of emitter.old) (tokens_of emitter.old) spare.slot (kept_by keep 2) (first.variable ∷ second.variable ∷ []) }
+    requires known { IfSome keep (λ mask. HasKnown (counted_of emitter.old) (tokens_of emitter.old) spare.slot (kept_by mask 2) (first.variable ∷ second.variable ∷ [])) }
     requires owns { OwnsAll (counted_of emitter.old) first.emitter (first.variable ∷ second.variable ∷ []) }
     requires of { first.emitter ≡ second.emitter }
     requires fields { HasFields (counted_of emitter.old) 0 2 }
@@ -83,7 +84,11 @@ fn filled(
             return Err(error);
         }
     };
-    match emitter.construct_over(spare, 0, keep, fields) {
+    let built = match keep {
+        Some(mask) => emitter.construct_over(spare, 0, mask, fields),
+        None => emitter.construct_in(spare, 0, fields),
+    };
+    match built {
         Ok(built) => Ok(built),
         Err(kept) => Err(abandoned(emitter, kept)),
     }
@@ -114,7 +119,7 @@ fn keep(alloc: Global, shape: &Shape) -> Result<TokenedFun, NoMemory>
             return Err(error);
         }
     };
-    let built = filled(alloc, &mut emitter, spare, 2, number, second)?;
+    let built = filled(alloc, &mut emitter, spare, Some(2), number, second)?;
     completed(emitter, built)
 }
 
@@ -332,45 +337,12 @@ fn called_and_filled(
     ensures failed { OnErr result ((counted_of emitter.new).failed ≡ true) }
 {
     match called_again(alloc, emitter, rest) {
-        Ok(value) => refilled(alloc, emitter, spare, sum, value),
+        Ok(value) => filled(alloc, emitter, spare, None, sum, value),
         Err(error) => {
             lose(emitter, sum);
             lose_token(emitter, spare);
             Err(error)
         }
-    }
-}
-
-/// Builds a cell of two fields in the cell of the only token, all of whose fields are written.
-fn refilled(
-    alloc: Global,
-    emitter: &mut TokenEmitter<'_>,
-    spare: Spare,
-    first: Owed,
-    second: Owed,
-) -> Result<Owed, NoMemory>
-    requires writes { Writes (counted_of emitter.old) }
-    requires has { HasSpare (counted_of emitter.old) (tokens_of emitter.old) spare.emitter spare.slot }
-    requires alone { (counted_of emitter.old).failed ≡ false → without (spare.slot ∷ []) (tokens_of emitter.old).spare ≡ [] }
-    requires owns { OwnsAll (counted_of emitter.old) first.emitter (first.variable ∷ second.variable ∷ []) }
-    requires of { first.emitter ≡ second.emitter }
-    requires fields { HasFields (counted_of emitter.old) 0 2 }
-    ensures going { OnOk result ((counted_of emitter.old).failed ≡ false) }
-    ensures ok { OnOk result (counted_of emitter.new ≡ computed (counted_of emitter.old) (Form.Construct 0) (first.variable ∷ second.variable ∷ []) (first.variable ∷ second.variable ∷ [])) }
-    ensures tokens { OnOk result (tokens_of emitter.new ≡ record (tokens_of emitter.old) { moves = (tokens_of emitter.new).moves; spare = [] }) }
-    ensures owed { IfOk result (λ owed. (owed.emitter ≡ (counted_of emitter.old).instance) × (owed.variable ≡ (counted_of emitter.old).next)) }
-    ensures failed { OnErr result ((counted_of emitter.new).failed ≡ true) }
-{
-    let fields = match two_fields(alloc, emitter, first, second) {
-        Ok(fields) => fields,
-        Err(error) => {
-            lose_token(emitter, spare);
-            return Err(error);
-        }
-    };
-    match emitter.construct_in(spare, 0, fields) {
-        Ok(built) => Ok(built),
-        Err(kept) => Err(abandoned(emitter, kept)),
     }
 }
 
