@@ -10,8 +10,8 @@ use Rattle.kk_core.specs.Decisions.{NodeTree}
 use Rattle.kk_core.specs.Truths.{truth_decisions}
 use Rattle.kk_counted.specs.CountedCodes.{Counted, give, tail_call, case, compute, inside, read, open_cell, if_unique, dup, drop, no_arm, arm, CountedFunction}
 use Rattle.kk_counted.specs.CountedForms.{plug}
-use Rattle.kk_counted.specs.Drafts.{Draft, begun, given, duplicated, dropped, unpacked, looked, computed, ended_by_value, ended_by_call, joined, finished}
-use Rattle.kk_counted.specs.Emitting.{BecomesMarked}
+use Rattle.kk_emitter.specs.Drafts.{Draft, begun, given, duplicated, dropped, unpacked, looked, computed, ended_by_value, ended_by_call, joined, finished}
+use Rattle.kk_emitter.specs.Emitting.{BecomesMarked}
 use Rattle.kk_counted.specs.Marks.{CellMarks, HasMark, CanBeMarked}
 use Rattle.counted_tests.specs.CellTables.{table_of}
 use Rattle.counted_tests.specs.TwoRows.{behind_first, box_row}

@@ -2,7 +2,7 @@
 use Rattle.std.proofs.Common.{◌≡◌, ℕ, List, [], ◌∷◌, refl}
 use Rattle.kk_counted.specs.TokenedCodes.{Tokened}
 use Rattle.kk_counted.specs.TokenedForms.{TokenedMove}
-use Rattle.kk_counted.specs.TokenDrafts.{EndedArm, joined_slots, renames}
+use Rattle.kk_emitter.specs.TokenDrafts.{EndedArm, joined_slots, renames}
 
 -- an arm that leaves tokens in these slots, the newest first
 abbrev leaving : List ℕ → EndedArm

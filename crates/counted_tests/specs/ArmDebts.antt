@@ -1,10 +1,10 @@
 -- What the arms of the branches of these tests are to spend.
 use Rattle.std.specs.Prelude.{◌≡◌, ℕ, false, List, [], ◌∷◌, None}
 use Rattle.kk_syntax.specs.declared.positions.Ownership.TheVariants.{Owned}
-use Rattle.kk_counted.specs.declared.debts.Owed.{Owed}
-use Rattle.kk_counted.specs.declared.debts.Debts.{Debts}
-use Rattle.kk_counted.specs.Drafts.{Draft, Writes, IsInArm, HasFields}
-use Rattle.kk_counted.specs.TokenDrafts.{TokenDraft}
+use Rattle.kk_emitter.specs.declared.debts.Owed.{Owed}
+use Rattle.kk_emitter.specs.declared.debts.Debts.{Debts}
+use Rattle.kk_emitter.specs.Drafts.{Draft, Writes, IsInArm, HasFields}
+use Rattle.kk_emitter.specs.TokenDrafts.{TokenDraft}
 
 -- An arm is written, which owns one variable and the tokens in some slots, one at most. The debts are these.
 pub record IsArmOf (x : ℕ) (slots : List ℕ) (d : Draft) (t : TokenDraft) (debts : Debts) : Type 0 where

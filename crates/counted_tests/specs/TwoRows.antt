@@ -3,9 +3,9 @@ use Rattle.std.specs.Prelude.{ℕ, true, false, [], ◌∷◌}
 use Rattle.kk_syntax.specs.declared.positions.Ownership.TheVariants.{Owned}
 use Rattle.kk_core.specs.Truths.{truth_decisions}
 use Rattle.kk_counted.specs.TokenedCodes.{Tokened}
-use Rattle.kk_counted.specs.TokenedForms.{TokenedMove}
-use Rattle.kk_counted.specs.Drafts.{Draft, begun, given, unpacked, forked, entered, ended_by_value}
-use Rattle.kk_counted.specs.TokenDrafts.{TokenDraft, no_tokens, gains, spends, opens_with, tokens_forked, tokens_entered, tokens_ended_in}
+use Rattle.kk_counted.specs.TokenedForms.{TokenedMove, opens_with}
+use Rattle.kk_emitter.specs.Drafts.{Draft, begun, given, unpacked, forked, entered, ended_by_value}
+use Rattle.kk_emitter.specs.TokenDrafts.{TokenDraft, no_tokens, gains, spends, tokens_forked, tokens_entered, tokens_ended_in}
 use Rattle.counted_tests.specs.CellTables.{table_of}
 
 -- A branch on a variable, whose rows are to spend one: the first row has given that, and the other is entered.

@@ -4,12 +4,12 @@ ghost use Rattle.std.specs.Prelude.{◌≡◌, ◌∷◌, [], true, false, IfOk,
 ghost use Rattle.kk_syntax.specs.declared.positions.Ownership.TheVariants.{Owned};
 ghost use Rattle.kk_counted.specs.CountedForms.{decisions_of};
 ghost use Rattle.kk_counted.specs.TokenedCodes.{Tokened};
-ghost use Rattle.kk_counted.specs.TokenedForms.{TokenedMove};
-ghost use Rattle.kk_counted.specs.Drafts.{begun, given, unpacked, forked, outside, ended_by_value, ended_by_call, Writes, Owns};
-ghost use Rattle.kk_counted.specs.TokenDrafts.{no_tokens, gains, spends, opens_with, tokens_forked, tokens_ended_in};
-ghost use Rattle.kk_counted.specs.TokenEmissions.{counted_of, tokens_of};
-ghost use Rattle.kk_counted.specs.TokenEmitting.{HasSpare, CanEnd, IsTokenedFunctionOf};
-ghost use Rattle.kk_counted.specs.Works.{left_in};
+ghost use Rattle.kk_counted.specs.TokenedForms.{TokenedMove, opens_with};
+ghost use Rattle.kk_emitter.specs.Drafts.{begun, given, unpacked, forked, outside, ended_by_value, ended_by_call, Writes, Owns};
+ghost use Rattle.kk_emitter.specs.TokenDrafts.{no_tokens, gains, spends, tokens_forked, tokens_ended_in};
+ghost use Rattle.kk_emitter.specs.TokenEmissions.{counted_of, tokens_of};
+ghost use Rattle.kk_emitter.specs.TokenEmitting.{HasSpare, CanEnd, IsTokenedFunctionOf};
+ghost use Rattle.kk_emitter.specs.Works.{left_in};
 ghost use Rattle.counted_tests.specs.CellTables.{table_of, IsShapeOf};
 ghost use Rattle.counted_tests.specs.ArmDebts.{IsArmOf};
 ghost use Rattle.counted_tests.specs.TwoRows.{box_row, tokens_box_row};
@@ -21,10 +21,8 @@ use crate::rebuilding::opened_box;
 use crate::shapes::shape_of_boxes;
 use kk_base::NoMemory;
 use kk_core::{Decisions, truth_decisions};
-use kk_counted::{
-    Arms, Debts, Owed, Shape, Spare, TokenArmEnd, TokenEmitter, TokenedFun, TokenedLast,
-    TokenedStep,
-};
+use kk_counted::{Shape, TokenedFun, TokenedLast, TokenedStep};
+use kk_emitter::{Arms, Debts, Owed, Spare, TokenArmEnd, TokenEmitter};
 use std::alloc::Global;
 
 /// Opens the parameter, a box, by its count, and begins a branch on what was inside. Each arm is to spend that and the token.

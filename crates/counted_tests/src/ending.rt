@@ -2,18 +2,19 @@
 
 ghost use Rattle.std.specs.Prelude.{◌≡◌, ◌∷◌, [], true, false, None, IfOk, OnOk, OnErr};
 ghost use Rattle.kk_syntax.specs.declared.positions.Ownership.TheVariants.{Owned};
-ghost use Rattle.kk_counted.specs.Emitting.{BecomesMarked};
+ghost use Rattle.kk_emitter.specs.Emitting.{BecomesMarked};
 ghost use Rattle.kk_counted.specs.TokenedCodes.{Tokened};
 ghost use Rattle.kk_counted.specs.TokenedForms.{TokenedMove};
-ghost use Rattle.kk_counted.specs.Drafts.{joined, finished as finished_code, ended_by_value, Writes, IsOnly, AreNewest, IsBetween, IsInArm};
-ghost use Rattle.kk_counted.specs.TokenDrafts.{spends, ended_with, tokens_joined, tokens_ended_by, tokens_ended_in};
-ghost use Rattle.kk_counted.specs.TokenEmissions.{counted_of, tokens_of};
-ghost use Rattle.kk_counted.specs.TokenEmitting.{HasSpare, HasNoSpare, HasAllSpare, CanEnd, EndsTokenArm, IsTokenedFunctionOf};
-ghost use Rattle.kk_counted.specs.Works.{left_in};
+ghost use Rattle.kk_emitter.specs.Drafts.{joined, finished as finished_code, ended_by_value, Writes, IsOnly, AreNewest, IsBetween, IsInArm};
+ghost use Rattle.kk_emitter.specs.TokenDrafts.{spends, ended_with, tokens_joined, tokens_ended_by, tokens_ended_in};
+ghost use Rattle.kk_emitter.specs.TokenEmissions.{counted_of, tokens_of};
+ghost use Rattle.kk_emitter.specs.TokenEmitting.{HasSpare, HasNoSpare, HasAllSpare, CanEnd, EndsTokenArm, IsTokenedFunctionOf};
+ghost use Rattle.kk_emitter.specs.Works.{left_in};
 
 use crate::losing::{abandoned, lose, lose_all, lose_arms};
 use kk_base::NoMemory;
-use kk_counted::{Arms, Debts, Owed, Spare, TokenArmEnd, TokenEmitter, TokenedFun, give_up};
+use kk_counted::TokenedFun;
+use kk_emitter::{Arms, Debts, Owed, Spare, TokenArmEnd, TokenEmitter, give_up};
 
 /// Ends the arm that is written, or spends what is left of its branch.
 pub fn ended(emitter: &mut TokenEmitter<'_>, end: TokenArmEnd, arms: Arms) -> Result<Arms, NoMemory>

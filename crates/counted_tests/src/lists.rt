@@ -4,11 +4,11 @@ ghost use Rattle.std.specs.Prelude.{◌≡◌, ◌∷◌, [], true, false, pos, 
 ghost use Rattle.kk_syntax.specs.Shapes.{without};
 ghost use Rattle.kk_syntax.specs.declared.positions.Ownership.TheVariants.{Owned, Lent};
 ghost use Rattle.kk_counted.specs.InstancePositions.{positions_in};
-ghost use Rattle.kk_counted.specs.Drafts.{computed, looked, unpacked, Writes, Owns, OwnsAll, HasFields};
-ghost use Rattle.kk_counted.specs.TokenDrafts.{adds, kept_by};
+ghost use Rattle.kk_emitter.specs.Drafts.{computed, looked, unpacked, Writes, Owns, OwnsAll, HasFields};
+ghost use Rattle.kk_emitter.specs.TokenDrafts.{adds, kept_by};
 ghost use Rattle.kk_counted.specs.TokenedForms.{TokenedMove};
-ghost use Rattle.kk_counted.specs.TokenEmissions.{counted_of, tokens_of};
-ghost use Rattle.kk_counted.specs.TokenEmitting.{HasKnown, HasSpare, IsTokenedFunctionOf};
+ghost use Rattle.kk_emitter.specs.TokenEmissions.{counted_of, tokens_of};
+ghost use Rattle.kk_emitter.specs.TokenEmitting.{HasKnown, HasSpare, IsTokenedFunctionOf};
 ghost use Rattle.counted_tests.specs.CellTables.{IsShapeOf};
 ghost use Rattle.counted_tests.specs.ArmDebts.{IsCellRow};
 
@@ -19,9 +19,8 @@ use crate::losing::{abandoned, lose, lose_only, lose_token};
 use crate::rebuilding::called_again;
 use crate::shapes::shape_of_pairs;
 use kk_base::NoMemory;
-use kk_counted::{
-    Debts, Owed, Shape, Spare, TokenEmitter, TokenedFun, TokenedLast, TokenedStep, give_up,
-};
+use kk_counted::{Shape, TokenedFun, TokenedLast, TokenedStep};
+use kk_emitter::{Debts, Owed, Spare, TokenEmitter, give_up};
 use kk_syntax::{BinaryOperator, Form, Ownership};
 use std::alloc::Global;
 

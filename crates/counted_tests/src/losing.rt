@@ -1,10 +1,10 @@
 //! What a caller does that has found no memory: it spends all that it holds.
 
 ghost use Rattle.std.specs.Prelude.{◌≡◌, [], true, length};
-ghost use Rattle.kk_counted.specs.TokenEmissions.{counted_of};
+ghost use Rattle.kk_emitter.specs.TokenEmissions.{counted_of};
 
 use kk_base::NoMemory;
-use kk_counted::{Arms, Debts, Kept, Owed, Spare, TokenEmitter};
+use kk_emitter::{Arms, Debts, Kept, Owed, Spare, TokenEmitter};
 
 /// Spends what a call could not take. The emitter has failed from then on.
 pub fn abandoned(emitter: &mut TokenEmitter<'_>, kept: Kept) -> NoMemory

@@ -2,15 +2,15 @@
 
 ghost use Rattle.std.specs.Prelude.{◌≡◌, ◌∷◌, [], true, false, IfOk, OnOk, OnErr};
 ghost use Rattle.kk_syntax.specs.declared.positions.Ownership.TheVariants.{Owned};
-ghost use Rattle.kk_counted.specs.TokenedForms.{TokenedMove};
-ghost use Rattle.kk_counted.specs.Drafts.{begun, given, unpacked, computed, Writes, Owns};
-ghost use Rattle.kk_counted.specs.TokenDrafts.{no_tokens, adds, gains, under_holds, opens_with};
-ghost use Rattle.kk_counted.specs.TokenEmissions.{counted_of, tokens_of};
+ghost use Rattle.kk_counted.specs.TokenedForms.{TokenedMove, opens_with};
+ghost use Rattle.kk_emitter.specs.Drafts.{begun, given, unpacked, computed, Writes, Owns};
+ghost use Rattle.kk_emitter.specs.TokenDrafts.{no_tokens, adds, gains, under_holds};
+ghost use Rattle.kk_emitter.specs.TokenEmissions.{counted_of, tokens_of};
 ghost use Rattle.counted_tests.specs.CellTables.{table_of};
 
 use crate::losing::{abandoned, lose_all};
 use kk_base::NoMemory;
-use kk_counted::{Debts, Owed, TokenEmitter};
+use kk_emitter::{Debts, Owed, TokenEmitter};
 use kk_syntax::Form;
 use std::alloc::Global;
 

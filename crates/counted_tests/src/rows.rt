@@ -4,11 +4,11 @@ ghost use Rattle.std.specs.Prelude.{◌≡◌, ◌∷◌, [], false, true, IfOk,
 ghost use Rattle.kk_syntax.specs.declared.positions.Ownership.TheVariants.{Owned};
 ghost use Rattle.kk_counted.specs.CountedForms.{decisions_of};
 ghost use Rattle.kk_counted.specs.TokenedCodes.{Tokened};
-ghost use Rattle.kk_counted.specs.Drafts.{begun, given, forked, ended_by_value};
-ghost use Rattle.kk_counted.specs.TokenDrafts.{no_tokens, tokens_forked, tokens_ended_in, tokens_entered};
-ghost use Rattle.kk_counted.specs.TokenEmissions.{counted_of, tokens_of};
-ghost use Rattle.kk_counted.specs.TokenEmitting.{CanEnd, IsTokenedFunctionOf};
-ghost use Rattle.kk_counted.specs.Works.{left_in};
+ghost use Rattle.kk_emitter.specs.Drafts.{begun, given, forked, ended_by_value};
+ghost use Rattle.kk_emitter.specs.TokenDrafts.{no_tokens, tokens_forked, tokens_ended_in, tokens_entered};
+ghost use Rattle.kk_emitter.specs.TokenEmissions.{counted_of, tokens_of};
+ghost use Rattle.kk_emitter.specs.TokenEmitting.{CanEnd, IsTokenedFunctionOf};
+ghost use Rattle.kk_emitter.specs.Works.{left_in};
 ghost use Rattle.counted_tests.specs.CellTables.{IsShapeOf};
 ghost use Rattle.counted_tests.specs.ArmDebts.{IsArmOf};
 ghost use Rattle.counted_tests.specs.TwoRows.{behind_first, tokens_first, tokens_given};
@@ -20,9 +20,8 @@ use crate::losing::{abandoned, lose_arms};
 use crate::shapes::shape_of_rows;
 use kk_base::NoMemory;
 use kk_core::{Decisions, truth_decisions};
-use kk_counted::{
-    Arms, Debts, Owed, Shape, TokenArmEnd, TokenEmitter, TokenedFun, TokenedLast, TokenedStep,
-};
+use kk_counted::{Shape, TokenedFun, TokenedLast, TokenedStep};
+use kk_emitter::{Arms, Debts, Owed, TokenArmEnd, TokenEmitter};
 use kk_syntax::{BinaryOperator, Form};
 use std::alloc::Global;
 

@@ -3,8 +3,7 @@ use Rattle.std.proofs.Common.{◌≡◌, ◌⊎◌, inl, inr, ℕ, zero, suc, �
 use Rattle.std.specs.Prelude.{if◌then◌else◌}
 use Rattle.kk_syntax.specs.Shapes.{is_among}
 use Rattle.kk_counted.specs.Spending.{total, AreEven, AreFresh, AreApart, numbers_from}
-use Rattle.kk_counted.specs.Drafts.{minus, minus_all, HasAll}
-use Rattle.kk_counted.specs.Emitting.{AreLow, AreIn}
+use Rattle.kk_counted.specs.VariableLists.{minus, minus_all, HasAll, AreLow, AreIn}
 use Rattle.kk_counted.proofs.CountChanges.{same}
 use Rattle.kk_counted.proofs.Variables.{among_cases}
 

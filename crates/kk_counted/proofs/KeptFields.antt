@@ -113,3 +113,9 @@ pub keeps_always : (weight : TokenState → ℕ) (setting : TokenSetting) → Ar
 keeps_always weight setting spends leaves input n =
     state_keeps (token_after weight setting input n) (token_after weight setting input n).control
     (good_after weight setting spends leaves input n).known
+
+-- a construction that writes all of its fields
+pub keeps_none : (next : ℕ) (fields arguments : List ℕ) → KeepsKnown next [] fields arguments
+keeps_none next fields [] = tt
+keeps_none next [] (argument ∷ arguments) = (refl, keeps_none (suc next) [] arguments)
+keeps_none next (field ∷ fields) (argument ∷ arguments) = (λ is. absurd (cc), keeps_none (suc next) fields arguments)

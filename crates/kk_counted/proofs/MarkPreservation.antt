@@ -15,7 +15,7 @@ use Rattle.kk_counted.proofs.SoundSteps.{LeadsTo, OnNamed, OnCode}
 use Rattle.kk_counted.specs.CountedCodes.{Counted, give, tail_call, case, compute, inside, read, open_cell, if_unique, dup, drop, CountedArms, no_arm, arm, CountedFunction}
 use Rattle.kk_counted.specs.CountedMachine.{at_counted, bound_then, at_end, at_stuck, with_heap, arm_at, case_step, give_step, in_code, tail_step, if_made_by, Named, cell_named, used_values, other_values, opened_heap, unique_heap, open_step, call_step, form_step, counted_code_step, counted_step_at, counted_step_of, counted_step, counted_ending_of, counted_machine}
 use Rattle.kk_counted.specs.CountedStates.{CountedSetting, CountedJoin, CountedFrame, CountedControl, running, stopped, stuck, CountedConfiguration, CountedState, no_function, counted_start, counted_first_state}
-use Rattle.kk_counted.specs.Emitting.{AreIn}
+use Rattle.kk_counted.specs.VariableLists.{AreIn}
 use Rattle.kk_counted.specs.Heaps.{Held, Heap, held_at, count_at, if_counted, set_count, busy, dup_value, drop_value}
 use Rattle.kk_counted.specs.Keeping.{counted_after}
 use Rattle.kk_counted.specs.MarkKeeping.{FitsMark, FitMarks, CellsFit, variables_of, EnvironmentFits, JoinsFit, RunFits, FramesFit, ControlFits, StateFits, numbers_given, numbers_called, numbers_at, numbers_after, numbers_from_state, numbers_in}

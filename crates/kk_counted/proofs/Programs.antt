@@ -6,8 +6,7 @@ use Rattle.std.specs.Prelude.{if◌then◌else◌, slice_get, slice_index_or}
 use Rattle.kk_syntax.specs.PositionsOf.{PositionTable}
 use Rattle.kk_counted.specs.declared.counted.CountedFun.{CountedFun}
 use Rattle.kk_counted.specs.CountedCodes.{CountedFunction}
-use Rattle.kk_counted.specs.Emitting.{HaveParameters}
-use Rattle.kk_counted.specs.Programs.{function_of, IsFunctionOf, AreFunctions, program_of}
+use Rattle.kk_counted.specs.Programs.{function_of, IsFunctionOf, AreFunctions, program_of, HaveParameters}
 use Rattle.kk_counted.specs.Spending.{SpendsParameters, IsSpent}
 
 pub no_functions : (positions : PositionTable) (functions : List CountedFun) → functions ≡ []

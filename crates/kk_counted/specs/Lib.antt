@@ -2,7 +2,6 @@ pub mod Arms
 pub mod BareForms
 pub mod BlockEnds
 pub mod CodePlaces
-pub mod Computing
 pub mod Cost
 pub mod CountedCosts
 pub mod CountBounds
@@ -11,9 +10,6 @@ pub mod CountedCodes
 pub mod CountedForms
 pub mod CountedMachine
 pub mod CountedStates
-pub mod Drafts
-pub mod Emissions
-pub mod Emitting
 pub mod FunctionSizes
 pub mod Heaps
 pub mod Int32
@@ -30,9 +26,6 @@ pub mod References
 pub mod InstancePositions
 pub mod Spending
 pub mod TokenCosts
-pub mod TokenDrafts
-pub mod TokenEmissions
-pub mod TokenEmitting
 pub mod TokenKeeping
 pub mod TokenLengths
 pub mod TokenLowerable
@@ -45,4 +38,4 @@ pub mod TokenedCodes
 pub mod TokenedForms
 pub mod TokenedWords
 pub mod Tokens
-pub mod Works
+pub mod VariableLists

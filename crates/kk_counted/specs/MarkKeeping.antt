@@ -7,7 +7,7 @@ use Rattle.kk_counted.specs.CountedCodes.{Counted, give, tail_call, compute}
 use Rattle.kk_counted.specs.Heaps.{Heap}
 use Rattle.kk_counted.specs.CountedStates.{CountedSetting, CountedJoin, CountedFrame, CountedControl, running, stopped, stuck, CountedConfiguration, CountedState, counted_first_state}
 use Rattle.kk_counted.specs.CountedMachine.{counted_machine}
-use Rattle.kk_counted.specs.Emitting.{AreIn}
+use Rattle.kk_counted.specs.VariableLists.{AreIn}
 use Rattle.kk_counted.specs.Marks.{CellMarks, result_mark, field_marks, HasMark}
 
 -- ---- values

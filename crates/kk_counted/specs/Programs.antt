@@ -5,7 +5,18 @@ use Rattle.kk_counted.specs.declared.counted.CountedFun.{CountedFun}
 use Rattle.kk_counted.specs.Arms.{HasArms}
 use Rattle.kk_counted.specs.CountedCodes.{CountedFunction, CountedProgram}
 use Rattle.kk_counted.specs.CountedForms.{block_code}
-use Rattle.kk_counted.specs.Emitting.{IsJudged}
+use Rattle.kk_counted.specs.Spending.{SpendsParameters}
+
+-- functions have as many parameters as the table of positions tells
+abbrev pub HaveParameters : PositionTable → List CountedFunction → Type 0
+HaveParameters positions functions =
+    (f : ℕ) (function : CountedFunction) → slice_get functions f ≡ Some function
+    → function.parameters ≡ length (slice_index_or positions f [])
+
+-- a function spends its parameters, whatever the functions are that it calls
+abbrev pub IsJudged : PositionTable → ℕ → CountedFunction → Type 0
+IsJudged positions f function =
+    (functions : List CountedFunction) → HaveParameters positions functions → SpendsParameters positions functions f function
 
 abbrev pub function_of : CountedFun → CountedFunction
 function_of fun = record { parameters = fun.parameters; body = block_code fun.body }

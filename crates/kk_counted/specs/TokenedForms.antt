@@ -1,6 +1,7 @@
 -- Code with tokens as Rust has it, as the mathematical code.
-use Rattle.std.specs.Prelude.{ℕ, List, [], ◌∷◌, map}
+use Rattle.std.specs.Prelude.{ℕ, Bool, true, false, List, [], ◌∷◌, map}
 use Rattle.kk_syntax.specs.declared.program.Form.{Form}
+use Rattle.kk_syntax.specs.declared.program.Form.TheVariants.{Construct}
 use Rattle.kk_counted.specs.CountedForms.{decisions_of}
 use Rattle.kk_counted.specs.declared.tokened.TokenedBlock.{TokenedBlock}
 use Rattle.kk_counted.specs.declared.tokened.TokenedFun.{TokenedFun}
@@ -99,3 +100,13 @@ tokened_function fun = record { parameters = fun.parameters; body = tokened_code
 
 abbrev pub tokened_program : List TokenedFun → List (List ℕ) → TokenedProgram
 tokened_program functions texts = record { functions = map tokened_function functions; texts = texts; main = 0 }
+
+-- an opening whose token stands in a slot, by the count of the cell or not
+abbrev pub opens_with : Bool → ℕ → ℕ → List ℕ → List ℕ → ℕ → TokenedMove
+opens_with true x c fields used slot = TokenedMove.opens_unique x c fields used slot
+opens_with false x c fields used slot = TokenedMove.opens x c fields used slot
+
+-- a construction with fields in the cell of a token, which leaves those at the kept positions
+abbrev pub fills_with : ℕ → ℕ → ℕ → List ℕ → List ℕ → List ℕ → TokenedMove
+fills_with x slot c [] kept others = TokenedMove.computes x (Construct c) [] others
+fills_with x slot c (one ∷ arguments) kept others = TokenedMove.fills x slot c one arguments kept others

@@ -1,10 +1,9 @@
-ghost use Rattle.std.specs.Prelude.{◌≡◌, ◌<◌, ℕ, List, ◌∷◌, ◌++◌, [], map, length, slice_index_or, OnOk, OnErr};
-ghost use Rattle.kk_counted.specs.CountedForms.{plug, step_move, block_code, last_code};
+ghost use Rattle.std.specs.Prelude.{◌≡◌, ◌<◌, ℕ, List, ◌∷◌, ◌++◌, [], length, slice_index_or, OnOk, OnErr};
 ghost use Rattle.kk_counted.specs.Programs.{IsFunctionOf, AreFunctions, program_of};
 ghost use Rattle.kk_counted.specs.InstancePositions.{positions_in};
 ghost use Rattle.kk_counted.specs.Spending.{IsSpent};
 
-use crate::form::{Block, Last, Step};
+use crate::form::Block;
 use crate::shape::Shape;
 use kk_base::NoMemory;
 use std::alloc::Global;
@@ -18,18 +17,6 @@ pub struct CountedFun {
 }
 
 impl CountedFun {
-    pub(crate) fn of(instance: u32, parameters: u32, steps: Vec<Step>, last: Last) -> Self
-        ensures instance { result.instance ≡ instance }
-        ensures parameters { result.parameters ≡ parameters }
-        ensures body { block_code result.body ≡ plug (map step_move steps.items) (last_code last) }
-    {
-        CountedFun {
-            instance,
-            parameters,
-            body: Block { steps, last },
-        }
-    }
-
     /// The function of an instance, with so many parameters and this body. A program takes it where it spends what it owns.
     pub fn new(instance: u32, parameters: u32, body: Block) -> Self
         ensures { result ≡ record { instance = instance; parameters = parameters; body = body } }

@@ -1,28 +1,16 @@
 //! The counted form of a program: core code in which references to cells are counted. Its machine and what its code owes are
-//! in specs/, with laws of its runs. Emitters write functions, without tokens and with them, that spend each reference and each
-//! token once on each path.
+//! in specs/, with laws of its runs, without tokens and with them.
 #![tactic(auto)]
 
-mod branches;
 mod copies;
 mod counted;
-mod debts;
-mod emitter;
 mod form;
 mod law;
-mod lists;
 mod shape;
-mod token_branches;
-mod token_emitter;
-mod token_joins;
-mod token_work;
 mod tokened;
-mod work;
 
 pub use copies::copied_decisions;
 pub use counted::{Counted, CountedFun, counted_programs_are_judged};
-pub use debts::{ArmEnd, Arms, Debts, Kept, Owed, Spare, TokenArmEnd, give_up};
-pub use emitter::Emitter;
 pub use form::{Block, Last, Step};
 pub use law::{
     counted_cells_are_live, drops_pay_for_themselves, judged_code_is_never_stuck,
@@ -32,6 +20,6 @@ pub use law::{
     tokens_cost_what_they_have_room_for, tokens_follow_their_forms, tokens_keep_runs_the_same,
 };
 pub use shape::{InstanceShape, Parameter, Shape};
-pub use token_emitter::TokenEmitter;
-pub use token_work::{filling_step, opening_step};
-pub use tokened::{Tokened, TokenedBlock, TokenedFun, TokenedLast, TokenedStep};
+pub use tokened::{
+    Tokened, TokenedBlock, TokenedFun, TokenedLast, TokenedStep, filling_step, opening_step,
+};

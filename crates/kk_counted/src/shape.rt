@@ -49,8 +49,8 @@ impl Shape {
         &self.instances
     }
 
-    // The parameters of an instance.
-    pub(crate) fn parameters(&self, instance: u32) -> &[Parameter]
+    /// The parameters of an instance.
+    pub fn parameters(&self, instance: u32) -> &[Parameter]
         requires { instance < length self.now.instances.items }
         ensures { map (λ parameter. parameter.ownership) result.now ≡ slice_index_or (positions_in self.now.instances.items) instance [] }
     {

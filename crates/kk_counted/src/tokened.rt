@@ -1,6 +1,11 @@
+ghost use Rattle.std.specs.Prelude.{◌≡◌, ◌<◌, length, IfOk};
+ghost use Rattle.kk_counted.specs.TokenedForms.{opens_with, fills_with, tokened_move};
+
 use crate::shape::Shape;
+use kk_base::NoMemory;
 use kk_core::Decisions;
 use kk_syntax::Form;
+use std::alloc::Global;
 
 /// Steps of code with tokens in their order, and how the block ends. A token stands in a slot of the function that runs.
 #[cycle(tokened)]
@@ -124,4 +129,61 @@ pub struct Tokened {
     pub body_nodes: u64,
     /// The number of nodes of all instances together.
     pub nodes: u64,
+}
+
+/// The step that opens a cell, by its count or not, of whose fields some are used. Its token stands in the slot.
+pub fn opening_step(
+    variable: u32,
+    constructor: u32,
+    fields: Vec<u32>,
+    used: Vec<u32>,
+    slot: u32,
+    by_count: bool,
+) -> TokenedStep
+    ensures { tokened_move result ≡ opens_with by_count variable constructor fields.items used.items slot }
+{
+    if by_count {
+        return TokenedStep::IfUnique {
+            variable,
+            constructor,
+            fields,
+            used,
+            slot,
+        };
+    }
+    TokenedStep::Open {
+        variable,
+        constructor,
+        fields,
+        used,
+        slot,
+    }
+}
+
+/// The step that builds a cell, which has fields, in the cell of a token.
+pub fn filling_step(
+    alloc: Global,
+    variable: u32,
+    slot: u32,
+    constructor: u32,
+    arguments: &[u32],
+    kept: Vec<u32>,
+    others: Vec<u32>,
+) -> Result<TokenedStep, NoMemory>
+    requires { 0 < length arguments.now }
+    ensures { IfOk result (λ step. tokened_move step ≡ fills_with variable slot constructor arguments.now kept.items others.items) }
+{
+    let Some((first, rest)) = arguments.split_first() else {
+        unreachable!();
+    };
+    let arguments = Vec::from_slice(alloc, rest)?;
+    Ok(TokenedStep::Fill {
+        variable,
+        slot,
+        constructor,
+        first: *first,
+        arguments,
+        kept,
+        others,
+    })
 }

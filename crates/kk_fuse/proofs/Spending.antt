@@ -8,7 +8,7 @@ use Rattle.kk_syntax.specs.PositionsOf.{PositionTable}
 use Rattle.kk_syntax.specs.Shapes.{is_among}
 use Rattle.kk_counted.specs.CountedCodes.{Counted, give, tail_call, case, compute, inside, read, open_cell, if_unique, dup, drop}
 use Rattle.kk_counted.specs.CountedCodes.{CountedFunction}
-use Rattle.kk_counted.specs.Drafts.{minus}
+use Rattle.kk_counted.specs.VariableLists.{minus}
 use Rattle.kk_counted.specs.Spending.{AreEven, AllAmong, AreFresh, used_by, lent_by, Spends, SpendsParameters}
 use Rattle.kk_counted.proofs.Evenness.{total_append, even_among, even_back, even_same, minus_even, among_front, among_behind}
 use Rattle.kk_counted.proofs.Order.{spends_even}

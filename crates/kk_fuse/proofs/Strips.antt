@@ -6,7 +6,7 @@ use Rattle.kk_syntax.specs.declared.program.Form.{Form}
 use Rattle.kk_syntax.specs.Shapes.{is_among}
 use Rattle.kk_source.specs.Matching.{and_then}
 use Rattle.kk_counted.specs.CountedCodes.{Counted, compute, read, dup, drop}
-use Rattle.kk_counted.specs.Drafts.{minus}
+use Rattle.kk_counted.specs.VariableLists.{minus}
 use Rattle.kk_counted.specs.Spending.{AreEven}
 use Rattle.kk_counted.proofs.CountChanges.{same, itself}
 use Rattle.kk_counted.proofs.Variables.{among_cases, turned}

@@ -7,7 +7,7 @@ use Rattle.kk_counted.specs.KeptFields.{KnownFields, fields_in, known_opened, fo
 use Rattle.kk_counted.specs.TokenedCodes.{Tokened}
 use Rattle.kk_reuse.specs.Following.{may_make, kept, taken}
 use Rattle.kk_reuse.specs.Pairing.{frees, holds, all_taken_back, nulls, moves_up, filled_up, settled, left_by, paired_form, paired, paired_arms}
-use Rattle.kk_counted.proofs.TokenDraftChanges.{keeps_none}
+use Rattle.kk_counted.proofs.KeptFields.{keeps_none}
 use Rattle.kk_reuse.proofs.TakenBack.{HeldAgain, back_so}
 
 -- whatever is known

@@ -21,9 +21,8 @@ use Rattle.kk_counted.specs.declared.tokened.TokenedStep.TheVariants as OfStep
 use Rattle.kk_counted.specs.CountedCodes.{Counted}
 use Rattle.kk_counted.specs.CountedForms.{Move, computes, runs, reads, opens, opens_unique, dups, drops, plug, block_code, last_code, step_move, last_step, step_step, block_step}
 use Rattle.kk_counted.specs.Programs.{function_of, program_of}
-use Rattle.kk_counted.specs.TokenDrafts.{fills_with}
 use Rattle.kk_counted.specs.TokenedCodes.{Tokened, TokenedFunction, TokenedProgram}
-use Rattle.kk_counted.specs.TokenedForms.{TokenedMove, put_tokened, put_steps, tokened_code, tokened_last_code, tokened_move, tokened_function, tokened_program}
+use Rattle.kk_counted.specs.TokenedForms.{TokenedMove, put_tokened, put_steps, tokened_code, tokened_last_code, tokened_move, tokened_function, tokened_program, fills_with}
 use Rattle.kk_counted.proofs.FormViews.{block_is, step_read, step_open, step_dup, step_drop}
 use Rattle.kk_counted.proofs.TokenedViews.{tokened_block_is, step_pushed, let_step, inside_step, dup_step, drop_step}
 use Rattle.kk_reuse.specs.Following.{may_make, kept, leaves}

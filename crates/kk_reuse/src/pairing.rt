@@ -2,9 +2,8 @@
 
 ghost use Rattle.std.specs.Prelude.{◌≡◌, [], map, false, if◌then◌else◌, OnOk, IfOk};
 ghost use Rattle.kk_counted.specs.CountedForms.{arms_of, block_code, last_code, runs, step_move};
-ghost use Rattle.kk_counted.specs.TokenDrafts.{opens_with};
 ghost use Rattle.kk_counted.specs.TokenedCodes.{Tokened};
-ghost use Rattle.kk_counted.specs.TokenedForms.{TokenedMove, tokened_arms, tokened_code, tokened_last_code, tokened_move, put_steps};
+ghost use Rattle.kk_counted.specs.TokenedForms.{TokenedMove, tokened_arms, tokened_code, tokened_last_code, tokened_move, put_steps, opens_with};
 ghost use Rattle.kk_reuse.specs.Pairing.{frees, paired, paired_arms};
 ghost use Rattle.kk_reuse.specs.PairedForms.{held_before, held_behind, paired_block, paired_move, tokens_behind, written_form};
 

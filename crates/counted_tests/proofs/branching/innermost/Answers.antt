@@ -1,5 +1,5 @@
 use Rattle.std.proofs.Common.{[], ◌∷◌, ap, ◌∙◌}
-use Rattle.kk_counted.specs.Drafts.{ended_by_call}
+use Rattle.kk_emitter.specs.Drafts.{ended_by_call}
 use Rattle.counted_tests.proofs.FunctionMarks.{innermost_ends}
 use Rattle.counted_tests.proofs.branching.innermost.Goals as goal
 

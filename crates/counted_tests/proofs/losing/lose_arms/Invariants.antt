@@ -1,6 +1,6 @@
 use Rattle.std.proofs.Common.{◌≡◌, true, length}
-use Rattle.kk_counted.specs.TokenEmissions.{counted_of}
-use Rattle.kk_counted.specs.Works.{left_in}
+use Rattle.kk_emitter.specs.TokenEmissions.{counted_of}
+use Rattle.kk_emitter.specs.Works.{left_in}
 use Rattle.counted_tests.proofs.losing.lose_arms.Given as goal
 
 abbrev pub invariant-loop-debts : goal.invariant-loop-debts

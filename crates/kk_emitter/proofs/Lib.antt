@@ -1,0 +1,15 @@
+mod OwnershipSteps
+mod DraftSoundness
+mod DraftJoins
+mod ClosedBlocks
+mod ChosenPlaces
+mod StepLists
+mod CaseArms
+mod DraftChanges
+mod EmitterCalls
+mod EmitterViews
+mod ClosedTokens
+mod TokenDraftChanges
+mod TokenDraftBranches
+mod TokenDrafted
+mod TokenDraftJoins

@@ -1,0 +1,12 @@
+use Rattle.std.proofs.Common.{◌≡◌, ◌++◌, map, reverse, vec_len}
+use Rattle.kk_counted.specs.TokenedForms.{tokened_code}
+use Rattle.kk_emitter.specs.TokenDrafts.{arm_of, renamed}
+use Rattle.kk_emitter.proofs.token_joins.blocks_of.Given as goal
+
+abbrev pub invariant-loop-arm : goal.invariant-loop-arm
+invariant-loop-arm l =
+    map (renamed l.slots) (map arm_of l.left.items) ++ map tokened_code (reverse l.blocks.items)
+    ≡ map (renamed l.slots) (map arm_of l.fn.arms.items)
+
+abbrev pub decreases-loop-arm : goal.decreases-loop-arm
+decreases-loop-arm l = vec_len l.left

@@ -1,0 +1,8 @@
+pub mod Computing
+pub mod Drafts
+pub mod Emissions
+pub mod Emitting
+pub mod TokenDrafts
+pub mod TokenEmissions
+pub mod TokenEmitting
+pub mod Works
