@@ -28,10 +28,9 @@ use Rattle.rv_isa.specs.ProcessorMachine.{processor_machine}
 use Rattle.rv_lower.specs.Lowered.{from_to}
 use Rattle.rv_cells.specs.Fitting.{IsFit}
 use Rattle.rv_cells.specs.FormLines.{HaveOwnLines, ComesToItsLines, FollowsEachState}
-use Rattle.rv_cells.specs.Laws.{RunTheSame, ComeToTheirLines, AreWellLowered, AreShortLowered, TakeFewWords, HaveFewValues}
+use Rattle.rv_cells.specs.Laws.{RunTheSame, ComeToTheirLines, AreWellLowered, AreShortLowered, TakeFewWords, HaveFewValues, most_values_of}
 use Rattle.rv_cells.specs.Meaning.{setting_on}
 use Rattle.rv_cells.specs.Tables.{table_of, layout_in}
-use Rattle.rv_cells.specs.TokenedFunctions.{most_values_of}
 use Rattle.rv_cells.specs.TokenedLowered.{IsTokenedForm}
 use Rattle.rv_cells.specs.TokenMemory.{FollowTheirTokens}
 use Rattle.rv_cells.specs.TokenedMeaning.{roomy_outside, IsTokenedLowered, TokenedRunsTheSame}

@@ -8,7 +8,7 @@ use Rattle.elf_image.specs.declared.part.Part.{Part}
 use Rattle.kk_counted.specs.BareForms.{bare_program}
 use Rattle.kk_counted.specs.FunctionSizes.{AllHaveVariablesBelow, AllHaveSlotsBelow}
 use Rattle.kk_counted.specs.TokenedCodes.{TokenedProgram}
-use Rattle.rv_cells.specs.TokenedFunctions.{most_values_of}
+use Rattle.rv_cells.specs.Laws.{most_values_of}
 use Rattle.rv_inline.specs.InLine.{most_fresh}
 use Rattle.rv_isa.specs.declared.placed.Placed.{Placed}
 use Rattle.rv_isa.specs.AsmCode.{Lines}

@@ -19,11 +19,12 @@ use kk_base::NoMemory;
 use kk_counted::Tokened;
 use kk_syntax::StringLiteral;
 use rv_cells::{
-    lower_tokened, lowered_tokened_programs_are_short, lowered_tokened_programs_are_well_formed,
+    lowered_tokened_programs_are_short, lowered_tokened_programs_are_well_formed,
     lowered_tokened_programs_come_to_their_lines, lowered_tokened_programs_follow_their_tokens,
     lowered_tokened_programs_have_few_values, lowered_tokened_programs_run_the_same,
     lowered_tokened_programs_take_few_words,
 };
+use rv_tokens::lower_tokened;
 use std::alloc::Global;
 
 /// The image of a program in counted form with its tokens and with these string literals, with a heap of `cells` cells, of whose

@@ -79,8 +79,7 @@ use Rattle.kk_counted.specs.Marks.{
 use Rattle.kk_counted.specs.Spending.{numbers_from}
 use Rattle.kk_counted.specs.FunctionSizes.{HasVariablesBelow}
 use Rattle.kk_counted.specs.Lowerable.{AreBelow, AreNumbered, AreArmsNumbered, first_of, given_by, given_by_arms, BlocksGive, BlocksOfArmsGive, IsLowerable}
-use Rattle.rv_cells.specs.Marking.{marked, all_marked, mark_given, mark_of_form, marks_behind, marks_behind_arms, function_marks}
-use Rattle.rv_cells.specs.Written.{holds_in}
+use Rattle.rv_cells.specs.Marking.{marked, all_marked, mark_given, mark_of_form, marks_behind, marks_behind_arms, function_marks, holds_in}
 
 -- ---- one mark
 

@@ -31,7 +31,7 @@ use Rattle.rv_cells.specs.ComparisonBranch.{branch_of, branch_unless}
 use Rattle.rv_cells.specs.CountedLines.{Setting, ComputeLines, ways_of}
 use Rattle.rv_cells.specs.Layout.{Layout, header_of}
 use Rattle.rv_cells.specs.Tables.{table_of, layout_in}
-use Rattle.rv_cells.specs.TokenedFunctions.{most_values_of}
+use Rattle.rv_cells.specs.Laws.{most_values_of}
 use Rattle.rv_cells.specs.TokenedLines.{values_of_slots, HasSlots, HaveSlots, AskLines, OwnLines, CaseLines, IsFillOf, MayFill, OpeningLines}
 use Rattle.rv_cells.specs.TokenedLines.{header_stands, count_stands, LinesBehind, ArmsLines, IsFunctionOf}
 use Rattle.rv_cells.specs.TokenedLowered.{IsTokenedForm}

@@ -27,9 +27,6 @@ pub mod FillLines
 pub mod HeldFillLines
 pub mod PositionTests
 pub mod CallLines
-pub mod WrittenLines
-pub mod WrittenNodes
-pub mod WrittenReadings
 pub mod BoundVariables
 pub mod UnnamedVariables
 pub mod Comparisons
@@ -44,7 +41,6 @@ pub mod FitStates
 pub mod Examples
 pub mod Marks
 pub mod FunctionMarks
-pub mod ListGrowth
 pub mod CellForms
 pub mod FormedOrders
 pub mod FormedSteps
@@ -102,8 +98,5 @@ pub mod LineArrivals
 pub mod TokenArrivals
 pub mod TokenMarks
 pub mod Standings
-pub mod TokenCodeGrowth
-pub mod TokenJoins
-pub mod TokenFunctions
 pub mod FormValues
 pub mod FunctionValues

@@ -25,7 +25,6 @@ use Rattle.rv_cells.specs.FormLines.{HaveOwnLines, ComesToItsLines, FollowsEachS
 use Rattle.rv_cells.specs.Layout.{Layout, IsNarrow}
 use Rattle.rv_cells.specs.Meaning.{setting_on}
 use Rattle.rv_cells.specs.Tables.{table_of, layout_in}
-use Rattle.rv_cells.specs.TokenedFunctions.{most_values_of}
 use Rattle.rv_cells.specs.TokenedLowered.{IsTokenedForm}
 use Rattle.rv_cells.specs.TokenedMeaning.{IsTokenedLowered, TokenedRunsTheSame}
 use Rattle.kk_core.specs.CodeNodes.{string_words}
@@ -83,6 +82,11 @@ TakeFewWords =
     → (functions_length each + string_words * all_tokened_prints code.functions
     ≤ most_parameters * length code.functions + all_tokened_words code.functions)
     × (length (all_bytes texts) ≤ most_print * all_tokened_prints code.functions)
+
+-- how many values a function with so many variables and slots names at most: behind both come temporaries, one for each argument
+-- of a call
+abbrev pub most_values_of : ℕ → ℕ → ℕ
+most_values_of variables slots = variables + slots + most_parameters
 
 -- the law that the assembler code of a program with tokens names no more values than its variables, its slots and its temporaries
 abbrev pub HaveFewValues : Type 0

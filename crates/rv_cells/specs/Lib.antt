@@ -6,7 +6,6 @@ pub mod CountedLines
 pub mod ComparisonBranch
 pub mod TokenedLines
 pub mod Standings
-pub mod Written
 pub mod Fitting
 pub mod Meaning
 pub mod Marking
@@ -15,7 +14,5 @@ pub mod TokenedLowered
 pub mod TokenedMeaning
 pub mod FormLines
 pub mod TokenedMarking
-pub mod TokenedWritten
-pub mod TokenedFunctions
 pub mod Laws
 pub mod TokenMemory

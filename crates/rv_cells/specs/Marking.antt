@@ -1,6 +1,6 @@
 -- The marks of a function's variables, as its binders are met: a list by the variable's number. Behind the last a variable has
 -- none.
-use Rattle.std.specs.Prelude.{ℕ, zero, suc, Bool, false, List, [], ◌∷◌, Option, Some, None}
+use Rattle.std.specs.Prelude.{ℕ, zero, suc, Bool, false, List, [], ◌∷◌, Option, Some, None, slice_index_or}
 use Rattle.kk_syntax.specs.declared.program.Form.{Form}
 use Rattle.kk_syntax.specs.declared.program.Form.TheVariants.{Construct, Call}
 use Rattle.kk_counted.specs.CountedCodes.{
@@ -22,7 +22,10 @@ use Rattle.kk_counted.specs.CountedCodes.{
 }
 use Rattle.kk_counted.specs.Lowerable.{given_by}
 use Rattle.kk_counted.specs.Marks.{CellMarks, parameter_marks, result_mark, field_marks, made_mark}
-use Rattle.rv_cells.specs.Written.{holds_in}
+
+-- by a variable's number, whether its type has cells: behind the last mark it has none
+abbrev pub holds_in : List Bool → ℕ → Bool
+holds_in marks x = slice_index_or marks x false
 
 -- one variable gets a mark
 abbrev pub marked : ℕ → Bool → List Bool → List Bool

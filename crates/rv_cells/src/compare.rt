@@ -1,25 +1,21 @@
 // A comparison in front of a case on its value, which are one branch.
 
-ghost use Rattle.std.specs.Prelude.{◌≡◌, ℕ, Bool, [], ◌∷◌, Some, map, IfSome, OnOk, IsTrue, false, IsFalse};
+ghost use Rattle.std.specs.Prelude.{◌≡◌, ℕ, Bool, [], ◌∷◌, Some, map, IfSome, IsTrue, false, IsFalse};
 ghost use Rattle.kk_core.specs.declared.decisions.Answer.TheVariants.{Constructor};
 ghost use Rattle.kk_core.specs.Decisions.{node_tree};
 ghost use Rattle.kk_core.specs.Truths.{truth_decisions};
 ghost use Rattle.kk_counted.specs.TokenedForms.{tokened_last_code, tokened_move, tokened_code, tokened_arms};
-ghost use Rattle.rv_isa.specs.declared.asm.Action.TheVariants.{Branch};
-ghost use Rattle.rv_lower.specs.Lines.{acts};
-ghost use Rattle.rv_lower.specs.Written.{pair_of, Wrote};
+ghost use Rattle.rv_lower.specs.Written.{pair_of};
 ghost use Rattle.rv_cells.specs.ComparisonBranch.{branch_unless, IsTested, IsCompared, IsBranchBetween, names, name_arms};
 ghost use Rattle.rv_cells.specs.ComparisonBranch.{names_behind};
 ghost use Rattle.rv_cells.specs.ComparisonBranch.{arms_name_behind, step_names, steps_name};
 ghost use Rattle.kk_syntax.specs.Shapes.{is_among};
 ghost use Rattle.kk_counted.specs.BareForms.{bare, bare_arms};
 
-use kk_base::NoMemory;
 use kk_core::{Answer, Decisions, Edge, Node};
 use kk_counted::{TokenedBlock, TokenedLast, TokenedStep};
 use kk_syntax::{BinaryOperator, Form};
-use rv_isa::{Action, Condition};
-use rv_lower::{Lowering, Reads, act};
+use rv_isa::Condition;
 
 /// A condition of the values of two variables.
 #[derive(Clone, Copy, Drop)]
@@ -40,17 +36,6 @@ pub fn branch_between(step: &TokenedStep, last: &TokenedLast) -> Option<Branchin
         return None;
     }
     Some(branch)
-}
-
-/// Goes to a label where the condition of a branch holds.
-pub fn write_branch(lowering: &mut Lowering, branch: Branching, label: u32) -> Result<(), NoMemory>
-    ensures { OnOk result (Wrote (acts (Branch branch.condition label) (branch.first ∷ branch.second ∷ []) ∷ []) lowering.old
-        lowering.new) }
-{
-    lowering.write(&[act(
-        Action::Branch(branch.condition, label),
-        Reads::Two(branch.first, branch.second),
-    )])
 }
 
 /// The variable of a comparison, and the branch that it would be.

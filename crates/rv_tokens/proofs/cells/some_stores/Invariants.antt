@@ -1,0 +1,12 @@
+use Rattle.std.proofs.Common.{◌≡◌, ◌+◌, map, take}
+use Rattle.rv_lower.specs.Written.{short_line}
+use Rattle.rv_cells.specs.CellLines.{SomeStores, is_kept}
+use Rattle.rv_tokens.proofs.cells.some_stores.Given as goal
+use Rattle.rv_cells.specs.Layout.{first_field}
+
+abbrev pub invariant-loop-field : goal.invariant-loop-field
+invariant-loop-field l = record {
+  index : l.index ≡ 2 + l.field-index;
+  position : l.position ≡ l.field-index;
+  lines : SomeStores (is_kept l.left l.kept) l.cell first_field 0 (take l.field-index l.fields) (map short_line l.lines.items);
+}
