@@ -15,12 +15,12 @@ use Rattle.kk_syntax.specs.Trees.{RowTree, pattern_of_row, rows_of, expr_tree, r
 use Rattle.kk_syntax.proofs.Views.{match_tree, row_tree_is}
 use Rattle.kk_syntax.specs.Covered.{Each, asked_by}
 use Rattle.kk_syntax.specs.Matches.{IsMatchCovered}
-use Rattle.kk_cover.specs.Covered.{IsMatchMissed, row_outlines}
+use Rattle.kk_rows.specs.Covered.{IsMatchMissed, row_outlines}
 use Rattle.kk_syntax.specs.Outlines.{Outline, outline_of, pattern_outline}
 use Rattle.kk_syntax.specs.Matches.{of_matches, matches, IsFunctionCovered}
 use Rattle.kk_cover.specs.Matches.{match_rows, IsFirstMissed, IsFirstMiss}
-use Rattle.kk_cover.proofs.RowBounds.{Within}
-use Rattle.kk_cover.proofs.KeptRows.{each-append, each_back}
+use Rattle.kk_rows.proofs.RowBounds.{Within}
+use Rattle.kk_rows.proofs.KeptRows.{each-append, each_back}
 
 rows_outlines : (rows : List Row) → row_outlines rows ≡ asked_by (rows_of (map row_tree rows))
 rows_outlines [] = refl

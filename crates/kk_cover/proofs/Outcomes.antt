@@ -8,22 +8,22 @@ use Rattle.kk_syntax.specs.Outlines.{Outline, any, exactly, made, Outlines, no_o
 use Rattle.kk_syntax.specs.Programs.{FunctionTree, ProgramTree, AreDeclared}
 use Rattle.kk_syntax.specs.Types.{TypeTree}
 use Rattle.kk_syntax.specs.Typing.{Choice, IsTypable, TypesAs}
-use Rattle.kk_cover.specs.declared.problem.Asked.{Asked}
-use Rattle.kk_cover.specs.declared.problem.Asked.TheVariants as OfAsked
-use Rattle.kk_cover.specs.declared.problem.Head.TheVariants.{Free, Number}
+use Rattle.kk_slots.specs.declared.problem.Asked.{Asked}
+use Rattle.kk_slots.specs.declared.problem.Asked.TheVariants as OfAsked
+use Rattle.kk_slots.specs.declared.problem.Head.TheVariants.{Free, Number}
 use Rattle.kk_syntax.specs.Matches.{IsMatchCovered}
-use Rattle.kk_cover.specs.Covered.{IsMatchMissed}
+use Rattle.kk_rows.specs.Covered.{IsMatchMissed}
 use Rattle.kk_syntax.specs.Matches.{matches, IsFunctionCovered}
 use Rattle.kk_cover.specs.Matches.{IsFirstMissed, Miss, IsFirstMiss, CoversAs, missed_in, IsDecided, EachTypedProgramIsDecided}
-use Rattle.kk_cover.specs.Narrowing.{anys, opened, top}
-use Rattle.kk_cover.specs.Problems.{OpenProblem, built, child, children, has_blank, first_asked, owner, LacksNumber, StepsTo, Settles}
+use Rattle.kk_slots.specs.Narrowing.{anys, opened, top}
+use Rattle.kk_slots.specs.Problems.{OpenProblem, built, child, children, has_blank, first_asked, owner, LacksNumber, StepsTo, Settles}
 use Rattle.kk_cover.specs.TypedRows.{AreOfChosenType}
-use Rattle.kk_cover.proofs.MatchRows.{one_typed, one_misses}
-use Rattle.kk_cover.proofs.SearchSoundness.{Leads, Closed, settles_leads, settles_closed}
-use Rattle.kk_cover.proofs.SearchTermination.{left, left_next}
-use Rattle.kk_cover.proofs.KeptRows.{each-append, each_front, each_back}
-use Rattle.kk_cover.proofs.ConstructorDeclarations.{knows}
-use Rattle.kk_cover.proofs.CoverSearches.{first_problem, first_leads, wildcards}
+use Rattle.kk_rows.proofs.MatchRows.{one_typed, one_misses}
+use Rattle.kk_rows.proofs.SearchSoundness.{Leads, Closed, settles_leads, settles_closed}
+use Rattle.kk_rows.proofs.SearchTermination.{left, left_next}
+use Rattle.kk_rows.proofs.KeptRows.{each-append, each_front, each_back}
+use Rattle.kk_rows.proofs.ConstructorDeclarations.{knows}
+use Rattle.kk_rows.proofs.CoverSearches.{first_problem, first_leads, wildcards}
 use Rattle.kk_cover.proofs.TypedRows.{function_rows}
 
 -- ---- a problem with rows is settled by some others

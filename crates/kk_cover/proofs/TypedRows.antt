@@ -12,7 +12,7 @@ use Rattle.kk_syntax.specs.Matches.{of_matches, matches}
 use Rattle.kk_syntax.proofs.PatternTypes.{rows_of_type}
 use Rattle.kk_syntax.proofs.Walks.{typing_agrees}
 use Rattle.kk_cover.specs.TypedRows.{AreOfChosenType}
-use Rattle.kk_cover.proofs.KeptRows.{each-append}
+use Rattle.kk_rows.proofs.KeptRows.{each-append}
 
 module _ (program : ProgramTree) where
   -- the choices of a part are among those of the whole

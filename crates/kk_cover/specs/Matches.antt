@@ -9,7 +9,7 @@ use Rattle.kk_syntax.specs.Matches.{matches, IsMatchCovered, IsFunctionCovered}
 use Rattle.kk_syntax.specs.Typing.{TypesAs}
 use Rattle.kk_cover.specs.declared.covering.CoverError.{CoverError}
 use Rattle.kk_cover.specs.declared.covering.CoverError.TheVariants.{NotCovered, NoMemory}
-use Rattle.kk_cover.specs.Covered.{IsMatchMissed, row_outlines}
+use Rattle.kk_rows.specs.Covered.{IsMatchMissed, row_outlines}
 use Rattle.kk_syntax.specs.Covered.{Each}
 use Rattle.kk_syntax.specs.Outlines.{Outline, HasSmallNumbers, pattern_outline}
 

@@ -6,20 +6,17 @@ ghost use Rattle.kk_syntax.specs.Shapes.{nodes_of, gathered_all, gathered_rows};
 ghost use Rattle.kk_syntax.specs.Trees.{expr_tree, trees_of, row_tree, rows_of, statement_tree};
 ghost use Rattle.kk_cover.specs.Matches.{match_rows, AnswersAll, AnswersProgram};
 
-use crate::finding;
 use kk_base::NoMemory;
+use kk_rows::uncovered;
 use kk_syntax::{Expr, Pat, Program, Row, Statement, Typed};
 use std::alloc::Global;
-use thiserror::Error;
 
 /// Why a program is not covered.
-#[derive(Debug, Drop, Error)]
+#[derive(Drop)]
 pub enum CoverError {
     /// The first function in the text that has a match that is not covered, by its number, and an example for the first
     /// such match in it: a pattern that clashes with each of its rows. Outer matches come before inner ones.
-    #[error("a match in function {function} is not covered")]
     NotCovered { function: u32, example: Pat },
-    #[error("no memory")]
     NoMemory,
 }
 
@@ -55,7 +52,7 @@ fn first(alloc: Global, program: &Program, expr: &Expr) -> Result<Option<Pat>, N
     let mut all = Vec::new(alloc);
     collect(expr, &mut all)?;
     for rows in &all {
-        if let Some(example) = finding::uncovered(alloc, program, rows)? {
+        if let Some(example) = uncovered(alloc, program, rows)? {
             return Ok(Some(example));
         }
     }

@@ -5,11 +5,11 @@ use Rattle.kk_syntax.specs.Shapes.{gathered_rows}
 use Rattle.kk_syntax.specs.Trees.{expr_tree, row_tree, rows_of, statement_tree}
 use Rattle.kk_syntax.proofs.PartCollections.{gathered_block}
 use Rattle.kk_syntax.proofs.Views.{block_tree}
-use Rattle.kk_cover.specs.Covered.{row_outlines}
+use Rattle.kk_rows.specs.Covered.{row_outlines}
 use Rattle.kk_syntax.specs.Outlines.{Outline}
 use Rattle.kk_cover.specs.Matches.{match_rows}
 use Rattle.kk_syntax.specs.Matches.{of_matches, matches}
-use Rattle.kk_cover.proofs.SubProblems.{on_ok}
+use Rattle.kk_rows.proofs.SubProblems.{on_ok}
 use Rattle.kk_cover.proofs.ExpressionMatches.{matches_match, found_match, found_block, pushed_rows}
 use Rattle.kk_cover.proofs.covering.+collect.Goals as goal
 

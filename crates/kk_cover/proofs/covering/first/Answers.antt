@@ -5,11 +5,11 @@ use Rattle.kk_syntax.specs.Programs.{program_tree}
 use Rattle.kk_syntax.specs.Covered.{Each}
 use Rattle.kk_syntax.specs.Shapes.{nodes_of}
 use Rattle.kk_syntax.specs.Trees.{expr_tree}
-use Rattle.kk_cover.specs.Covered.{Answers}
+use Rattle.kk_rows.specs.Covered.{Answers}
 use Rattle.kk_syntax.specs.Outlines.{pattern_outline}
 use Rattle.kk_syntax.specs.Matches.{matches}
 use Rattle.kk_cover.specs.Matches.{match_rows, IsFirstMissed}
-use Rattle.kk_cover.proofs.RowBounds.{Within, match_nodes}
+use Rattle.kk_rows.proofs.RowBounds.{Within, match_nodes}
 use Rattle.kk_cover.proofs.ExpressionMatches.{first_at, covered_more, rows_within}
 use Rattle.kk_cover.proofs.covering.first.Goals as goal
 

@@ -4,8 +4,8 @@ use Rattle.kk_syntax.specs.declared.program.Pat.{Pat}
 use Rattle.kk_syntax.specs.Programs.{program_tree}
 use Rattle.kk_syntax.specs.Outlines.{outline_list, pattern_outline}
 use Rattle.kk_cover.specs.ExampleSpelling.{constructor_name, spelled, spelled_parts, spelled_from}
-use Rattle.kk_cover.proofs.SubProblems.{on_ok}
-use Rattle.kk_cover.proofs.Slots.{constructor_outline}
+use Rattle.kk_rows.proofs.SubProblems.{on_ok}
+use Rattle.kk_slots.proofs.Slots.{constructor_outline}
 use Rattle.kk_cover.proofs.Texts.{from_start}
 use Rattle.kk_cover.proofs.spelling.+spell.Goals as goal
 

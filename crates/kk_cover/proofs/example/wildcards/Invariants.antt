@@ -1,7 +1,0 @@
-use Rattle.std.proofs.Common.{◌≡◌}
-use Rattle.kk_cover.specs.Narrowing.{anys}
-use Rattle.kk_cover.specs.Problems.{stacked}
-use Rattle.kk_cover.proofs.example.wildcards.Given as goal
-
-abbrev pub invariant-loop-place : goal.invariant-loop-place
-invariant-loop-place l = stacked l.stack.items ≡ anys l._place

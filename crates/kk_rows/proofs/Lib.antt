@@ -1,0 +1,15 @@
+pub mod MatchRows
+pub mod SearchSoundness
+pub mod RowBounds
+pub mod SearchTermination
+pub mod PatternLists
+pub mod KeptRows
+pub mod ConstructorDeclarations
+pub mod RowNarrowing
+pub mod Pigeonhole
+pub mod SubProblems
+pub mod Rotations
+pub mod RowSteps
+pub mod CoverSearches
+pub mod NumberBounds
+pub mod Stacks
