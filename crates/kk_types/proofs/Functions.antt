@@ -6,11 +6,11 @@ use Rattle.kk_syntax.specs.Programs.{ProgramTree, FunctionTree}
 use Rattle.kk_syntax.specs.Types.{TypeTree, unit_type, type_variable, put, type_at, variables_below}
 use Rattle.kk_syntax.specs.Typing.{Scope, constructing, calling, holding, put_choice, with_parameters, IsTypedBy, IsTyping, IsTypable, IsPrincipal, Fixes}
 use Rattle.kk_unify.specs.Graphs.{NodeTree, Assignment, Obeys, IsPrincipalOf, NoneObeys, filled}
-use Rattle.kk_types.specs.declared.walk.Bound.{Bound}
-use Rattle.kk_types.specs.Claims.{expression_at}
-use Rattle.kk_types.specs.Walks.{Taking, constructing_at, calling_at, holding_at, choice_at, choices_at, AreBelow, IsTakenBelow, AreTakenBelow, variable_at, scope_at, Claim, Leads, Done, Refused, Builds, BuildsEach}
-use Rattle.kk_types.proofs.ClaimComposition.{head_of, tail_of, reworded, then_leads, refused_behind}
-use Rattle.kk_types.proofs.Scopes.{scope_more}
+use Rattle.kk_walk.specs.declared.walk.Bound.{Bound}
+use Rattle.kk_walk.specs.Claims.{expression_at}
+use Rattle.kk_walk.specs.Walks.{Taking, constructing_at, calling_at, holding_at, choice_at, choices_at, AreBelow, IsTakenBelow, AreTakenBelow, variable_at, scope_at, Claim, Leads, Done, Refused, Builds, BuildsEach}
+use Rattle.kk_walk.proofs.ClaimComposition.{head_of, tail_of, reworded, then_leads, refused_behind}
+use Rattle.kk_walk.proofs.Scopes.{scope_more}
 
 -- what is chosen at instances of types is an instance of what is chosen at the types
 module _ (size : ℕ) (r types : Assignment) (s : ℕ → TypeTree) (instance : (i : ℕ) → i < size → r i ≡ put s (types i)) where

@@ -9,11 +9,11 @@ use Rattle.kk_syntax.specs.Types.{TypeTree, TypeTrees, int32, unit_type, type_va
 use Rattle.kk_syntax.specs.Typing.{Scheme, chosen_at}
 use Rattle.kk_unify.specs.Graphs.{NodeTree, any_node, int32_node, unit_node, variable_node, named_node, Assignment, Holds, IsFormed, IsNodeFormed}
 use Rattle.kk_unify.proofs.GraphAssignments.{added, formed_more}
-use Rattle.kk_types.specs.Walks.{Taking, constructing_at, calling_at, choices_at, AreBelow, IsTakenBelow, AreTakenBelow, Agree, Builds, BuildsEach, Opens, IsInstance}
-use Rattle.kk_types.proofs.NewNodes.{adds_builds, adds_opens, builds_none, builds_more, opens_none, opens_more, stays}
-use Rattle.kk_types.proofs.TypeNodes.{at_nodes, builds_same, named_over}
-use Rattle.kk_types.proofs.Instances.{opens_still, one_below}
-use Rattle.kk_types.proofs.ClaimComposition.{agree_on, types_agree, below_more}
+use Rattle.kk_walk.specs.Walks.{Taking, constructing_at, calling_at, choices_at, AreBelow, IsTakenBelow, AreTakenBelow, Agree, Builds, BuildsEach, Opens, IsInstance}
+use Rattle.kk_walk.proofs.NewNodes.{adds_builds, adds_opens, builds_none, builds_more, opens_none, opens_more, stays}
+use Rattle.kk_walk.proofs.TypeNodes.{at_nodes, builds_same, named_over}
+use Rattle.kk_walk.proofs.Instances.{opens_still, one_below}
+use Rattle.kk_walk.proofs.ClaimComposition.{agree_on, types_agree, below_more}
 
 module _ (variables : ℕ) where
   -- a graph with a node of a type, with nodes of types, with new nodes

@@ -5,13 +5,13 @@ use Rattle.std.proofs.lemmas.List.Elements.{All-nil, All-cons}
 use Rattle.kk_syntax.specs.Programs.{ProgramTree, FunctionTree}
 use Rattle.kk_syntax.specs.Typing.{Choice, with_parameters, IsTypable, IsPrincipal}
 use Rattle.kk_unify.specs.Graphs.{Assignment, IsFormed, EachJoinIsDecided, EachGraphIsDecided}
-use Rattle.kk_types.specs.declared.walk.Bound.{Bound}
-use Rattle.kk_types.specs.Walks.{AreBelow, AreBoundBelow, scope_at, choices_at}
+use Rattle.kk_walk.specs.declared.walk.Bound.{Bound}
+use Rattle.kk_walk.specs.Walks.{AreBelow, AreBoundBelow, scope_at, choices_at}
 use Rattle.kk_types.proofs.WalkOutcome.{expression_decided}
 use Rattle.kk_types.proofs.NodeExistence.{own_built, list_built, type_built}
 use Rattle.kk_types.proofs.Functions.{begun, body_refused, body_leads, unsolved, solved}
-use Rattle.kk_types.proofs.ClaimComposition.{head_of, tail_of, below_more, bound_more}
-use Rattle.kk_types.proofs.Scopes.{scope_more}
+use Rattle.kk_walk.proofs.ClaimComposition.{head_of, tail_of, below_more, bound_more}
+use Rattle.kk_walk.proofs.Scopes.{scope_more}
 
 -- parameters, from the one of that number on, each at a node
 abbrev parameters_of : ℕ → List ℕ → List Bound

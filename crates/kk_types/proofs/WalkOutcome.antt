@@ -13,18 +13,18 @@ use Rattle.kk_syntax.specs.Trees.{Tree, variable, apply, branch, match, sequence
 use Rattle.kk_syntax.specs.Types.{TypeTree, int32}
 use Rattle.kk_syntax.specs.Typing.{Choice, bool, Scheme, InTurn, with_binder, with_bound, form_scheme, constructor_scheme, chosen_at, ArePatternsTyped, IsTypedBy, AreTypedBy, AreRowsTypedBy}
 use Rattle.kk_unify.specs.Graphs.{NodeTree, Assignment, IsFormed, EachJoinIsDecided}
-use Rattle.kk_types.specs.declared.walk.Bound.{Bound}
-use Rattle.kk_types.specs.Claims.{typed_as, bound_as, both, expression_at, expressions_at, rows_at, pattern_at, patterns_at, bounds_by}
-use Rattle.kk_types.specs.Walks.{Taking, holding_at, AreBelow, AreBoundBelow, scope_at, Claim, Leads, Done, Refused, IsOf}
-use Rattle.kk_types.proofs.ShortestWalks.{typed_as_of, unbound_refused}
+use Rattle.kk_walk.specs.declared.walk.Bound.{Bound}
+use Rattle.kk_walk.specs.Claims.{typed_as, bound_as, both, expression_at, expressions_at, rows_at, pattern_at, patterns_at, bounds_by}
+use Rattle.kk_walk.specs.Walks.{Taking, holding_at, AreBelow, AreBoundBelow, scope_at, Claim, Leads, Done, Refused, IsOf}
+use Rattle.kk_walk.proofs.ShortestWalks.{typed_as_of, unbound_refused}
 use Rattle.kk_types.proofs.NodeExistence.{Built, type_built, int32_built, any_opened, opened, instanced}
-use Rattle.kk_types.proofs.Locals.{scoped_of, node_of, nodes_of_claim, both_of, expression_of, expressions_of, rows_of_claim}
-use Rattle.kk_types.proofs.PatternWalk.{parts_of}
-use Rattle.kk_types.proofs.ClaimComposition.{head_of, tail_of, bound_more, below_more, then_leads, refused_behind, reworded, first_leads, first_refused, builds_leads, holds_leads, joins_refines, clash_refused}
-use Rattle.kk_types.proofs.RowsOf.{one_row, row_begun}
-use Rattle.kk_types.proofs.Scopes.{newest_is, newest_inside, scope_more}
-use Rattle.kk_types.proofs.StatementWalk.{binder_scope, binder_inside}
-use Rattle.kk_types.proofs.SchemeWalk.{used, giving, taking_arguments, unused, instance_leads}
+use Rattle.kk_walk.proofs.Locals.{scoped_of, node_of, nodes_of_claim, both_of, expression_of, expressions_of, rows_of_claim}
+use Rattle.kk_walk.proofs.PatternWalk.{parts_of}
+use Rattle.kk_walk.proofs.ClaimComposition.{head_of, tail_of, bound_more, below_more, then_leads, refused_behind, reworded, first_leads, first_refused, builds_leads, holds_leads, joins_refines, clash_refused}
+use Rattle.kk_walk.proofs.RowsOf.{one_row, row_begun}
+use Rattle.kk_walk.proofs.Scopes.{newest_is, newest_inside, scope_more}
+use Rattle.kk_walk.proofs.StatementWalk.{binder_scope, binder_inside}
+use Rattle.kk_walk.proofs.SchemeWalk.{used, giving, taking_arguments, unused, instance_leads}
 
 -- variables of a pattern, each at a node
 abbrev bounds_of : List ℕ → List ℕ → List Bound

@@ -9,7 +9,7 @@ use Rattle.kk_syntax.specs.Programs.{ProgramTree, program_tree}
 use Rattle.kk_syntax.specs.TypedPrograms.{typings_of}
 use Rattle.kk_syntax.specs.Typing.{Choice, ArePrincipal, TypesAs}
 use Rattle.kk_unify.specs.Solutions.{NamesEarlier}
-use Rattle.kk_types.specs.Walks.{takings_of, AreTakenBelow}
+use Rattle.kk_walk.specs.Walks.{takings_of, AreTakenBelow}
 use Rattle.kk_types.specs.declared.error.TypeError.{TypeError}
 use Rattle.kk_types.specs.declared.error.TypeError.TheVariants.{NotTyped, NoMemory}
 

@@ -1,4 +1,1 @@
 pub mod Checks
-pub mod Claims
-pub mod Steps
-pub mod Walks

@@ -3,15 +3,12 @@ ghost use Rattle.kk_types.specs.declared.error.TypeError.TheVariants.{NoMemory a
 
 use kk_base::NoMemory;
 use std::alloc::AllocFailed;
-use thiserror::Error;
 
 /// Why a program is not typed.
-#[derive(Clone, Copy, Debug, PartialEq, Eq, Error)]
+#[derive(Clone, Copy)]
 pub enum TypeError {
     /// The number of the first function that is not typed, in the order of the text, from 0.
-    #[error("function {function} is not typed")]
     NotTyped { function: u32 },
-    #[error("no memory")]
     NoMemory,
 }
 

@@ -2,14 +2,8 @@
 //! first function that is not typed.
 #![tactic(auto)]
 
-mod build;
 mod error;
-mod expression;
-mod instance;
-mod pattern;
 mod program;
-mod rows;
-mod walk;
 
 pub use error::TypeError;
 pub use program::{check, each_program_is_checked};

@@ -6,14 +6,14 @@ ghost use Rattle.kk_syntax.specs.TypedPrograms.{typing_of};
 ghost use Rattle.kk_syntax.specs.Typing.{IsPrincipal, IsTypable, with_parameters};
 ghost use Rattle.kk_unify.specs.GraphOf.{graph_of, variables_of};
 ghost use Rattle.kk_unify.specs.Graphs.{Assignment};
-ghost use Rattle.kk_types.specs.Walks.{scope_at, AreBelow, AreBoundBelow, BuildsEach};
+ghost use Rattle.kk_walk.specs.Walks.{scope_at, AreBelow, AreBoundBelow, BuildsEach};
 
-use crate::build::{build, build_each, numbered, small};
 use crate::error::TypeError;
-use crate::walk::{Bound, Walk};
 use kk_base::NoMemory;
 use kk_syntax::{BodyTypes, Fun, Program, TypeNode, Typed};
 use kk_unify::{Graph, graphs_are_decided};
+use kk_walk::build::{build, build_each, numbered, small};
+use kk_walk::{Bound, Walk};
 use std::alloc::Global;
 
 /// The types that each function's body is taken at, which are as general as can be; or the first function that is not

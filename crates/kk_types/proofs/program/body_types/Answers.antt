@@ -6,7 +6,7 @@ use Rattle.kk_syntax.specs.Typing.{IsPrincipal}
 use Rattle.kk_unify.specs.GraphOf.{graph_of, variables_of}
 use Rattle.kk_unify.specs.Graphs.{IsPrincipalOf}
 use Rattle.kk_unify.specs.Solutions.{types_in}
-use Rattle.kk_types.specs.Walks.{takings_of, choices_at, BuildsEach}
+use Rattle.kk_walk.specs.Walks.{takings_of, choices_at, BuildsEach}
 use Rattle.kk_types.proofs.Functions.{body_refused, body_unsolved, body_solved}
 use Rattle.kk_types.proofs.program.body_types.Goals as goal
 

@@ -1,8 +1,8 @@
 use Rattle.std.proofs.Common.{◌≡◌, ◌+◌, [], ◌∷◌, ◌++◌, refl, add-one, sym, ◌∙◌, subst, arith}
 use Rattle.kk_syntax.specs.Types.{type_variable, variables_below}
 use Rattle.kk_unify.specs.GraphOf.{graph_of, variables_of}
-use Rattle.kk_types.specs.Walks.{BuildsEach}
-use Rattle.kk_types.proofs.NewNodes.{adds_builds, builds_more, builds_none}
+use Rattle.kk_walk.specs.Walks.{BuildsEach}
+use Rattle.kk_walk.proofs.NewNodes.{adds_builds, builds_more, builds_none}
 use Rattle.kk_types.proofs.program.own_variables.Goals as goal
 
 pub loop-variable-init : goal.loop-variable-init

@@ -1,7 +1,7 @@
 use Rattle.std.proofs.Common.{◌≡◌}
 use Rattle.kk_syntax.specs.Types.{variables_below}
 use Rattle.kk_unify.specs.GraphOf.{graph_of, variables_of}
-use Rattle.kk_types.specs.Walks.{BuildsEach}
+use Rattle.kk_walk.specs.Walks.{BuildsEach}
 use Rattle.kk_types.proofs.program.own_variables.Given as goal
 
 abbrev pub invariant-loop-variable : goal.invariant-loop-variable

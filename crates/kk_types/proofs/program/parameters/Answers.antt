@@ -1,7 +1,7 @@
 use Rattle.std.proofs.Common.{◌<◌, [], ◌∷◌, slice_index_or, refl, sym, subst}
 use Rattle.std.proofs.lemmas.List.Elements.{All-append, All-cons, All-nil}
-use Rattle.kk_types.specs.declared.walk.Bound.{Bound}
-use Rattle.kk_types.specs.Walks.{AreBoundBelow}
+use Rattle.kk_walk.specs.declared.walk.Bound.{Bound}
+use Rattle.kk_walk.specs.Walks.{AreBoundBelow}
 use Rattle.kk_types.proofs.Functions.{parameter_bound}
 use Rattle.kk_types.proofs.program.parameters.Goals as goal
 

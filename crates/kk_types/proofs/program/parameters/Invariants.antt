@@ -1,7 +1,7 @@
 use Rattle.std.proofs.Common.{◌≡◌, ℕ, map, take, []}
 use Rattle.kk_syntax.specs.Typing.{with_parameters}
 use Rattle.kk_unify.specs.Graphs.{Assignment}
-use Rattle.kk_types.specs.Walks.{scope_at, AreBelow, AreBoundBelow}
+use Rattle.kk_walk.specs.Walks.{scope_at, AreBelow, AreBoundBelow}
 use Rattle.kk_types.proofs.program.parameters.Given as goal
 
 abbrev pub invariant-loop-index : goal.invariant-loop-index

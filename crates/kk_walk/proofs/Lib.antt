@@ -1,0 +1,16 @@
+pub mod ArgumentWalk
+pub mod ClaimComposition
+pub mod Forms
+pub mod Instances
+pub mod Locals
+pub mod NewNodes
+pub mod NodeRenumbering
+pub mod PatternWalk
+pub mod Patterns
+pub mod RowsOf
+pub mod SchemeWalk
+pub mod Scopes
+pub mod ShortestWalks
+pub mod StatementWalk
+pub mod TypeNodes
+pub mod WalkComposition

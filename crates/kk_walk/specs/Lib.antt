@@ -1,0 +1,3 @@
+pub mod Claims
+pub mod Steps
+pub mod Walks
