@@ -16,9 +16,10 @@ ghost use Rattle.kk_front.specs.Outcome.{IsOutcome};
 
 use kk_base::{NoMemory, Refusal};
 use kk_cover::{CoverError, cover, each_typed_program_is_decided, example_text};
+use kk_limits::check_declarations;
 use kk_mono::{MonoError, instances};
 use kk_names::{resolved_programs_have_main, resolved_programs_have_truths_and_texts};
-use kk_syntax::{Accepted, Fun, Pat, Program, Typed, check_declarations};
+use kk_syntax::{Accepted, Fun, Pat, Program, Typed};
 use kk_types::{TypeError, check};
 use std::alloc::Global;
 

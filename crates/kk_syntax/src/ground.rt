@@ -30,7 +30,7 @@ pub struct Ground {
 }
 
 /// A type without variables, as a node among others: its arguments are nodes before it, by their numbers.
-#[derive(Clone, PartialEq, Eq, Hash, Drop)]
+#[derive(PartialEq, Eq, Hash, Drop)]
 pub enum GroundType {
     Int32,
     /// `()`

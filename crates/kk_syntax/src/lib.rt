@@ -20,7 +20,7 @@ pub use copy::{
     copied_constructors, copied_declarations, copied_pattern, copied_texts, copied_type,
     copied_types,
 };
-pub use declarations::{Quantity, check_declarations, count_of_type};
+pub use declarations::{Quantity, count_of_type};
 pub use ground::{Ground, GroundConstructor, GroundType, Instance};
 pub use literal::StringLiteral;
 pub use operator::{BinaryOperator, PrintForm, UnaryOperator};

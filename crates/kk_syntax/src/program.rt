@@ -156,7 +156,7 @@ pub enum Binder {
 }
 
 /// A pattern.
-#[derive(Debug, Drop)]
+#[derive(Drop)]
 pub enum Pat {
     Wildcard,
     Variable(u32),

@@ -2,7 +2,7 @@ use Rattle.std.proofs.Common.{refl, ◌∙◌}
 use Rattle.std.specs.Prelude.{Ok, Err}
 use Rattle.kk_syntax.specs.Programs.{program_tree}
 use Rattle.kk_syntax.proofs.Quantities.{only_declared, whole_first}
-use Rattle.kk_syntax.proofs.declarations.check_declarations.Goals as goal
+use Rattle.kk_limits.proofs.declarations.check_declarations.Goals as goal
 
 pub returns-in-Some : goal.returns-in-Some
 returns-in-Some c =

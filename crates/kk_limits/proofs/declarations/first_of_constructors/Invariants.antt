@@ -2,7 +2,7 @@ use Rattle.std.proofs.Common.{◌≡◌, drop, map}
 use Rattle.std.specs.Prelude.{flat_map}
 use Rattle.kk_syntax.specs.Programs.{constructor_tree, program_tree}
 use Rattle.kk_syntax.specs.Declarations.{quantities_of_constructor, sooner, first_over}
-use Rattle.kk_syntax.proofs.declarations.first_of_constructors.Given as goal
+use Rattle.kk_limits.proofs.declarations.first_of_constructors.Given as goal
 
 -- the first one of all is the first one so far, or of those that are left
 abbrev pub invariant-loop-constructor : goal.invariant-loop-constructor

@@ -5,7 +5,7 @@ use Rattle.kk_syntax.specs.declared.program.Constructor.{Constructor}
 use Rattle.kk_syntax.specs.Programs.{program_tree}
 use Rattle.kk_syntax.specs.Declarations.{place_of_type, if_over, sooner}
 use Rattle.kk_syntax.proofs.Quantities.{quantities_are, constructor_more}
-use Rattle.kk_syntax.proofs.declarations.first_of_constructors.Goals as goal
+use Rattle.kk_limits.proofs.declarations.first_of_constructors.Goals as goal
 
 pub loop-constructor-preserved : goal.loop-constructor-preserved
 loop-constructor-preserved c =

@@ -1,7 +1,7 @@
 use Rattle.std.proofs.Common.{◌≡◌, drop, map}
 use Rattle.kk_syntax.specs.Programs.{function_tree}
 use Rattle.kk_syntax.specs.Declarations.{quantity_of_function, sooner, first_over}
-use Rattle.kk_syntax.proofs.declarations.first_of_functions.Given as goal
+use Rattle.kk_limits.proofs.declarations.first_of_functions.Given as goal
 
 -- the first one of all is the first one so far, or of those that are left
 abbrev pub invariant-loop-function : goal.invariant-loop-function
