@@ -1,4 +1,3 @@
 mod Examples
-mod Numbers
 mod Rules
 mod LineCommands

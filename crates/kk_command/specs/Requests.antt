@@ -1,12 +1,10 @@
 -- What the program is asked for, and the words that ask for it: those that clap takes for the line below, whose numbers are in their ranges.
-use Rattle.std.specs.Prelude.{ℕ, ◌^◌, ◌-◌, List, Bool, true, false, not, ◌&&◌, ◌==◌, nat_le, nat_lt, if◌then◌else◌, length, slice_index, Option, Some, None, option_and_then, codes, bytes_eq}
-use Rattle.std.specs.List.{list_all}
-use Rattle.std.specs.Char.{is_ascii_digit}
-use Rattle.std.specs.Str.Parse.{digits_value}
+use Rattle.std.specs.Prelude.{ℕ, ◌^◌, ◌-◌, List, Bool, true, false, if◌then◌else◌, Option, Some, None, option_and_then, codes, bytes_eq}
 use Rattle.clap.specs.Words.{App, Row, Rule, Text, fault_of, first_of, new_app, new_rule, subcommand_of, with_rule, with_subcommand}
 use Rattle.clap.specs.Walk.{is_empty}
 use Rattle.clap.specs.declared.builder.action.ArgAction.TheVariants.{SetTrue}
 use Rattle.kk_base.specs.Sizes.{greatest_cells, greatest_depth}
+use Rattle.kk_number.specs.Numbers.{number_in}
 use Rattle.kk_command.specs.ProgramSizes.{least_size, greatest_size}
 
 -- what the program is asked for: to judge the text in a file; to build its image into another; to build its image and run it, and
@@ -96,19 +94,6 @@ line_app =
     with_subcommand (with_run_commands (with_subcommand (with_subcommand bare_app check_app.top) build_app.top)) bench_app.top
 
 -- ---- the numbers
-
--- decimal digits without a sign or a leading zero
-abbrev pub has_leading_zero : Text → Bool
-has_leading_zero text = nat_lt 1 (length text) && slice_index text 0 == 48
-
-abbrev pub is_number : Text → Bool
-is_number text = nat_lt 0 (length text) && (not (has_leading_zero text) && list_all is_ascii_digit text)
-
--- the number that a text writes, where it is in a range
-abbrev pub number_in : ℕ → ℕ → Text → Option ℕ
-number_in least greatest text =
-    let n = digits_value 10 text in
-    if is_number text && nat_le least n && nat_le n greatest then Some n else None
 
 -- the value of an option: of its text where it was given, or else its default
 abbrev pub option_in : ℕ → ℕ → ℕ → Option Text → Option ℕ

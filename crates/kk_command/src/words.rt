@@ -1,20 +1,17 @@
-ghost use Rattle.std.specs.Prelude.{◌≡◌, ◌≤◌, map, string_bytes, IfOk, IfSome, option_map, ◌^◌, true, IfNone};
+ghost use Rattle.std.specs.Prelude.{◌≡◌, ◌≤◌, map, string_bytes, IfOk, IfSome, option_map};
 ghost use Rattle.clap.specs.Words.{found_of, rows_of, first_of, subcommand_rows_of};
 ghost use Rattle.kk_base.specs.Sizes.{greatest_cells, greatest_depth};
 ghost use Rattle.kk_command.specs.Requests.{request_of, request_named, entered_request, check_in, build_in, run_in, sim_in};
 ghost use Rattle.kk_command.specs.Requests.{eval_in, bench_in, seed_in, size_in, cells_in, depth_in, steps_in, stats_in};
-ghost use Rattle.kk_command.specs.Requests.{has_leading_zero, is_number, number_in};
 ghost use Rattle.kk_command.specs.Commands.{request_read};
 ghost use Rattle.kk_command.specs.ProgramSizes.{least_size, greatest_size};
-ghost use Rattle.std.specs.List.{list_all};
-ghost use Rattle.std.specs.Char.{is_ascii_digit};
-ghost use Rattle.std.specs.Str.Parse.{digits_value};
 
 use crate::application::application;
 use crate::command::{Command, Generation, RunOptions, Sizes};
 use clap::ArgMatches;
 use clap::error::ErrorKind;
 use kk_base::{GREATEST_CELLS, GREATEST_DEPTH, NoMemory};
+use kk_number::number_in;
 use std::alloc::Global;
 
 const DEFAULT_CELLS: u32 = 65_536;
@@ -197,44 +194,4 @@ fn value_of<'a>(matches: &ArgMatches<'a>, id: &str) -> Option<&'a str>
     ensures { option_map (λ text. text.now) result ≡ first_of id.now (rows_of (found_of matches.now)) }
 {
     matches.get_str(id)
-}
-
-/// The number that a text writes in decimal digits, without a sign or a leading zero, where it is in a range.
-pub fn number_in(least: u64, greatest: u64, text: &str) -> Option<u64>
-    ensures value { result ≡ number_in least greatest text.now }
-    ensures least { IfSome result (λ number. least ≤ number) }
-    ensures greatest { IfSome result (λ number. number ≤ greatest) }
-{
-    if !is_number(text.as_bytes()) {
-        return None;
-    }
-    let number = value(text)?;
-    (least <= number && number <= greatest).then_some(number)
-}
-
-fn is_number(text: &[u8]) -> bool
-    ensures { result ≡ is_number text.now }
-{
-    !text.is_empty() && !has_leading_zero(text) && are_digits(text)
-}
-
-fn has_leading_zero(text: &[u8]) -> bool
-    ensures { result ≡ has_leading_zero text.now }
-{
-    text.len() > 1 && text[0] == b'0'
-}
-
-fn are_digits(text: &[u8]) -> bool
-    ensures { result ≡ list_all is_ascii_digit text.now }
-{
-    text.iter().all(|byte| byte.is_ascii_digit())
-}
-
-/// The number that digits write; none where it does not fit in a u64.
-fn value(digits: &str) -> Option<u64>
-    requires { is_number digits.now ≡ true }
-    ensures some { IfSome result (λ number. number ≡ digits_value 10 digits.now) }
-    ensures none { IfNone result (2 ^ 64 ≤ digits_value 10 digits.now) }
-{
-    digits.parse().ok()
 }

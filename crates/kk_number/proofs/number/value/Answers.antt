@@ -1,7 +1,7 @@
 use Rattle.std.proofs.Common.{sym, subst, Option, IfSome, IfNone, ◌≡◌, ◌≤◌, ◌^◌, ℕ}
 use Rattle.std.specs.Str.Parse.{digits_value}
-use Rattle.kk_command.proofs.Numbers.{some_value, no_value}
-use Rattle.kk_command.proofs.words.value.Goals as goal
+use Rattle.kk_number.proofs.Numbers.{some_value, no_value}
+use Rattle.kk_number.proofs.number.value.Goals as goal
 
 pub returns-clause-some : goal.returns-clause-some
 returns-clause-some c =
