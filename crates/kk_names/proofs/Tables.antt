@@ -1,6 +1,7 @@
 -- Tables of names, and lists of names.
-use Rattle.std.proofs.Common.{◌≡◌, ℕ, List, [], ◌∷◌, ◌++◌, map, Bool, true, false, bytes_eq, Option, Some, refl, sym, ap, ◌∙◌}
+use Rattle.std.proofs.Common.{◌≡◌, ℕ, ◌+◌, ◌<◌, List, [], ◌∷◌, ◌++◌, length, get_or, map, drop, Bool, true, false, bytes_eq, Option, Some, refl, sym, ap, ◌∙◌}
 use Rattle.std.specs.Prelude.{if◌then◌else◌, is_some, ◌||◌}
+use Rattle.kk_base.proofs.Lists.{rest_at}
 use Rattle.kk_names.specs.declared.scope.Bound.{Bound}
 use Rattle.kk_names.specs.declared.table.Declared.{Declared}
 use Rattle.kk_names.specs.declared.table.DeclaredType.{DeclaredType}
@@ -20,6 +21,23 @@ number_here scope one name is =
 pub number_elsewhere : (scope : List Bound) (one : Bound) (name : List ℕ) → bytes_eq one.name name ≡ false → number_in (newest_first scope) name ≡ number_in (newest_first (scope ++ one ∷ [])) name
 number_elsewhere scope one name other =
     sym (ap (λ all. number_in all name) (newest_more [] scope one) ∙ ap (λ b. if b then Some one.number else number_in (newest_first scope) name) other)
+
+-- what a name means among the items of a table from one on, as that one has the name or not
+pub meaning_here : (table : List Declared) (i : ℕ) (d : Declared) (name : List ℕ) → d ≡ get_or table i d → i < length table → bytes_eq d.name name ≡ true → meaning_in (drop i table) name ≡ Some d.callee
+meaning_here table i d name is less same =
+    ap (λ all. meaning_in all name) (rest_at table i d less is) ∙ ap (λ b. if b then Some d.callee else meaning_in (drop (i + 1) table) name) same
+
+pub meaning_further : (table : List Declared) (i : ℕ) (d : Declared) (name : List ℕ) → d ≡ get_or table i d → i < length table → bytes_eq d.name name ≡ false → meaning_in (drop i table) name ≡ meaning_in (drop (i + 1) table) name
+meaning_further table i d name is less other =
+    ap (λ all. meaning_in all name) (rest_at table i d less is) ∙ ap (λ b. if b then Some d.callee else meaning_in (drop (i + 1) table) name) other
+
+pub type_here : (table : List DeclaredType) (i : ℕ) (d : DeclaredType) (name : List ℕ) → d ≡ get_or table i d → i < length table → bytes_eq d.name name ≡ true → type_in (drop i table) name ≡ Some d.meaning
+type_here table i d name is less same =
+    ap (λ all. type_in all name) (rest_at table i d less is) ∙ ap (λ b. if b then Some d.meaning else type_in (drop (i + 1) table) name) same
+
+pub type_further : (table : List DeclaredType) (i : ℕ) (d : DeclaredType) (name : List ℕ) → d ≡ get_or table i d → i < length table → bytes_eq d.name name ≡ false → type_in (drop i table) name ≡ type_in (drop (i + 1) table) name
+type_further table i d name is less other =
+    ap (λ all. type_in all name) (rest_at table i d less is) ∙ ap (λ b. if b then Some d.meaning else type_in (drop (i + 1) table) name) other
 
 either_way : {A : Type 0} (b : Bool) (found : A) (rest : Option A) (among : Bool) → is_some rest ≡ among → is_some (if b then Some found else rest) ≡ (b || among)
 either_way true found rest among h = refl

@@ -85,9 +85,10 @@ fn see_all(alloc: Global, types: &[SurfaceType], variables: &mut Vec<Name>) -> R
 fn see_variable(alloc: Global, name: &Name, variables: &mut Vec<Name>) -> Result<(), NoMemory>
     ensures { IfOk result (λ _. variables.new.items ≡ with_variable_name variables.old.items name.now) }
 {
-    if place_of(variables.as_slice(), name).is_none() {
-        let name = name.copied(alloc)?;
-        variables.push(name)?;
+    if place_of(variables.as_slice(), name).is_some() {
+        return Ok(());
     }
+    let name = name.copied(alloc)?;
+    variables.push(name)?;
     Ok(())
 }

@@ -1,10 +1,10 @@
 -- The operators of one level of precedence: one of some symbols, each of which opens a level.
-use Rattle.std.proofs.Common.{◌≡◌, ℕ, true, List, [], ◌∷◌, Option, Some, Result, Ok, Err, IsErrAnd, inl, inr}
+use Rattle.std.proofs.Common.{◌≡◌, ℕ, Bool, true, false, ◌||◌, refl, List, [], ◌∷◌, map, Option, Some, Result, Ok, Err, IsErrAnd, inl, inr}
 use Rattle.kk_syntax.specs.declared.token.LocatedToken.{LocatedToken}
 use Rattle.kk_syntax.specs.declared.token.Symbol.{Symbol}
 use Rattle.kk_parser.specs.declared.fault.Fault.{Fault}
 use Rattle.kk_parser.specs.declared.parser.Parser.{Parser}
-use Rattle.kk_parser.specs.Classes.{symbol as symbol_class, is_at}
+use Rattle.kk_parser.specs.Classes.{symbol as symbol_class, class_of, same_class, is_one_of, is_at}
 use Rattle.kk_parser.specs.Kinds.{symbol}
 use Rattle.kk_parser.specs.Phrases.{Phrase, PhraseValue, opener, either}
 use Rattle.kk_parser.specs.Reading.{first, Finds, finds_first, finds_second, Failure, ReadingFails, fails_first, fails_second}
@@ -43,3 +43,17 @@ operator_found p means s {v} x old new l h e d =
 pub operator_failed : {A : Type 0} (p : Phrase) (means : PhraseValue p → A) (s : Symbol) {v : PhraseValue p} (r : Result (Option A) Fault) (e : Fault) (old new : Parser) → Placed s p v → is_at (symbol_class s ∷ []) old.rest.now ≡ true → Deepens (Err e) old new → IsErrAnd r (λ y. y ≡ e) → ReadsIfNext p means r old new
 operator_failed p means s r e old new l h d i =
     gives_up_if_next p means r e old new i (placed_next old.rest.now l h) (passed_on p (opener (symbol s)) old old new (λ f. placed_failed old.rest.now f l h) e (deepen_failed (symbol s) old new e h d))
+
+-- each of some symbols is not next; so none of them is
+abbrev pub NoneNext : List Symbol → List LocatedToken → Type 0
+NoneNext [] ts = Unit {0}
+NoneNext (s ∷ ss) ts = (is_at (symbol_class s ∷ []) ts ≡ false) × NoneNext ss ts
+
+pub none_next : (ss : List Symbol) (ts : List LocatedToken) → NoneNext ss ts → is_at (map symbol_class ss) ts ≡ false
+none_next ss [] h = refl
+none_next [] (t ∷ ts) h = refl
+none_next (s ∷ ss) (t ∷ ts) h = neither (same_class (class_of t.token) (symbol_class s)) (is_one_of (map symbol_class ss) (class_of t.token)) h.0 (none_next ss (t ∷ ts) h.1)
+  where
+    neither : (a b : Bool) → (a || false) ≡ false → b ≡ false → (a || b) ≡ false
+    neither true b h e = absurd (cc h)
+    neither false b h e = e

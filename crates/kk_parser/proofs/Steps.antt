@@ -1,5 +1,5 @@
 -- The steps of the parser's methods: what a reading of a phrase comes to, from what its parts come to.
-use Rattle.std.proofs.Common.{◌≡◌, ℕ, ◌+◌, ◌<◌, ◌≤◌, Bool, true, false, List, [], ◌∷◌, Option, Some, None, option_copied, slice_get, Result, Ok, Err, IfOk, OnOk, IfErr, IsErrAnd, is_some, refl, sym, ap, ◌∙◌, subst, inl, inr}
+use Rattle.std.proofs.Common.{◌≡◌, ℕ, ◌+◌, ◌<◌, ◌≤◌, Bool, true, false, List, [], ◌∷◌, length, Option, Some, None, option_copied, slice_get, Result, Ok, Err, IfOk, OnOk, IfErr, IsErrAnd, is_some, refl, sym, ap, ◌∙◌, subst, inl, inr, arith}
 use Rattle.std.specs.Borrow.{Bor}
 use Rattle.std.specs.Global.{Box}
 use Rattle.kk_syntax.specs.declared.token.LocatedToken.{LocatedToken}
@@ -14,7 +14,7 @@ use Rattle.kk_parser.specs.declared.fault.Fault.{Fault}
 use Rattle.kk_parser.specs.declared.fault.Fault.TheVariants.{Unexpected, TooDeep, NoMemory}
 use Rattle.kk_parser.specs.declared.parser.Parser.{Parser}
 use Rattle.kk_parser.specs.Classes.{NameClass, name_class, Class, class_of, is_one_of, is_at}
-use Rattle.kk_parser.specs.Kinds.{Kind, keyword, symbol, name_in, is_name_in, Said, said_at, says, next_says, classes_of}
+use Rattle.kk_parser.specs.Kinds.{Kind, keyword, symbol, name_in, constructor, wildcard, string, is_name_in, Said, said_at, says, next_says, classes_of}
 use Rattle.kk_parser.specs.Phrases.{Nonterminal, Phrase, token, opener, ◌▸◌, either, many, rule, PhraseValue}
 use Rattle.kk_parser.specs.Forms.{form, form_meaning, items}
 use Rattle.kk_parser.specs.Reading.{first, Finds, finds_token, finds_opener, Failure, unexpected, too_deep, ReadingFails, fails_deep, finds_first, finds_second, finds_none, finds_more, finds_both, finds_rule, fails_rule, fails_front, fails_behind, fails_first, fails_second, fails_more}
@@ -46,12 +46,15 @@ pub opener_read : (k : Kind) (old new : Parser) (v : Said k) → next_says k old
 opener_read k old new v e h r d =
     subst (λ us. Finds most_levels (opener k) old.depth old.rest.now v new.depth us) (sym r) (subst (λ m. Finds most_levels (opener k) old.depth old.rest.now v m (behind old.rest.now)) (sym d) (opens_next k old.depth old.rest.now v e h))
 
--- a symbol was next, and was passed
+-- a symbol, a keyword or a wildcard was next, and was passed
 pub symbol_read : (s : Symbol) (old new : Parser) → is_at (classes_of (symbol s)) old.rest.now ≡ true → new.rest.now ≡ behind old.rest.now → new.depth ≡ old.depth → Read (token (symbol s)) tt old new
 symbol_read s old new h r d = token_read (symbol s) old new tt ((said_next (symbol s) old.rest.now h).1) r d
 
 pub keyword_read : (w : Keyword) (old new : Parser) → is_at (classes_of (keyword w)) old.rest.now ≡ true → new.rest.now ≡ behind old.rest.now → new.depth ≡ old.depth → Read (token (keyword w)) tt old new
 keyword_read w old new h r d = token_read (keyword w) old new tt ((said_next (keyword w) old.rest.now h).1) r d
+
+pub wildcard_read : (old new : Parser) → is_at (classes_of wildcard) old.rest.now ≡ true → new.rest.now ≡ behind old.rest.now → new.depth ≡ old.depth → Read (token wildcard) tt old new
+wildcard_read old new h r d = token_read wildcard old new tt ((said_next wildcard old.rest.now h).1) r d
 
 -- a token that is next may open a level too many
 pub too_deep_failed : (p : Phrase) (old new : Parser) (e : Fault) → (most_levels ≤ old.depth → ReadingFails most_levels p old.depth old.rest.now (too_deep old.rest.now)) → Deepens (Err e) old new → FailedBy e p old new
@@ -159,6 +162,43 @@ unsaid_other classes (OfToken.Number value) at h = refl
 unsaid_other classes (OfToken.String text) at h = refl
 unsaid_other classes (OfToken.Keyword k) at h = refl
 unsaid_other classes (OfToken.Symbol s) at h = refl
+
+-- the same of the other kinds that a match tells
+pub unsaid_constructor : (t : Token) (at : ℕ) → ((spelling : List ℕ) → t ≡ OfToken.Constructor spelling → ⊥) → said_at constructor t at ≡ None
+unsaid_constructor (OfToken.Constructor spelling) at h = absurd (h spelling refl)
+unsaid_constructor (OfToken.Name spelling) at h = refl
+unsaid_constructor OfToken.Wildcard at h = refl
+unsaid_constructor (OfToken.Number value) at h = refl
+unsaid_constructor (OfToken.String text) at h = refl
+unsaid_constructor (OfToken.Keyword k) at h = refl
+unsaid_constructor (OfToken.Symbol s) at h = refl
+
+pub unsaid_wildcard : (t : Token) (at : ℕ) → (t ≡ OfToken.Wildcard → ⊥) → said_at wildcard t at ≡ None
+unsaid_wildcard OfToken.Wildcard at h = absurd (h refl)
+unsaid_wildcard (OfToken.Name spelling) at h = refl
+unsaid_wildcard (OfToken.Constructor spelling) at h = refl
+unsaid_wildcard (OfToken.Number value) at h = refl
+unsaid_wildcard (OfToken.String text) at h = refl
+unsaid_wildcard (OfToken.Keyword k) at h = refl
+unsaid_wildcard (OfToken.Symbol s) at h = refl
+
+pub unsaid_string : (t : Token) (at : ℕ) → ((text : List ℕ) → t ≡ OfToken.String text → ⊥) → said_at string t at ≡ None
+unsaid_string (OfToken.String text) at h = absurd (h text refl)
+unsaid_string (OfToken.Name spelling) at h = refl
+unsaid_string (OfToken.Constructor spelling) at h = refl
+unsaid_string OfToken.Wildcard at h = refl
+unsaid_string (OfToken.Number value) at h = refl
+unsaid_string (OfToken.Keyword k) at h = refl
+unsaid_string (OfToken.Symbol s) at h = refl
+
+-- the next token is of no such kind
+pub is_at-not : (k : Kind) (ts : List LocatedToken) (o : Option (Bor LocatedToken)) (b : Bor LocatedToken) → option_copied o ≡ slice_get ts 0 → o ≡ Some b → said_at k b.now.token b.now.span.at ≡ None → is_at (classes_of k) ts ≡ false
+is_at-not k ts o b d e h = is_at-unsaid k ts (next_says-first k ts o b d e ∙ h)
+
+-- a token is next where one was found
+pub next_there : (ts : List LocatedToken) (o : Option (Bor LocatedToken)) (b : Bor LocatedToken) → option_copied o ≡ slice_get ts 0 → o ≡ Some b → 0 < length ts
+next_there [] o b e d = absurd (cc (e, ap option_copied d))
+next_there (t ∷ ts) o b e d = omega arith
 
 pub is_at-name : (classes : List NameClass) (ts : List LocatedToken) (spelling : List ℕ) (at : ℕ) (b : Bool) → b ≡ is_name_in classes (name_class spelling) → next_says (name_in classes) ts ≡ said_at (name_in classes) (OfToken.Name spelling) at → b ≡ is_at (classes_of (name_in classes)) ts
 is_at-name classes ts spelling at true h e = sym (is_at-said (name_in classes) ts _ (e ∙ said_name classes spelling at (sym h)))

@@ -101,7 +101,7 @@ impl<'a> Parser<'a> {
         ensures left { length self.new.rest.now ≤ length self.old.rest.now }
     {
         if self.is_at_wildcard() {
-            self.expect_wildcard()?;
+            self.advance();
             return anything(self.alloc);
         }
         if self.is_at_name(Names::All) {

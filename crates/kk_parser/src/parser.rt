@@ -85,7 +85,8 @@ impl<'a> Parser<'a> {
 
     /// Whether the next token is a wildcard.
     pub fn is_at_wildcard(&self) -> bool
-        ensures { result ≡ is_at (OfWildcard ∷ []) self.now.rest.now }
+        ensures value { result ≡ is_at (OfWildcard ∷ []) self.now.rest.now }
+        ensures there { IsTrue result → 0 < length self.now.rest.now }
     {
         match self.rest.first() {
             Some(next) => match &next.token {
@@ -165,16 +166,11 @@ impl<'a> Parser<'a> {
         ensures reads { ReadsPhrase (token wildcard) (λ _. tt) result self.old self.new }
         ensures left { length self.new.rest.now ≤ length self.old.rest.now }
     {
-        match self.rest.first() {
-            Some(next) => match &next.token {
-                Token::Wildcard => {
-                    self.advance();
-                    Ok(())
-                }
-                _ => Err(Fault::Unexpected),
-            },
-            None => Err(Fault::Unexpected),
+        if !self.is_at_wildcard() {
+            return Err(Fault::Unexpected);
         }
+        self.advance();
+        Ok(())
     }
 
     /// Passes this symbol, which opens a level.

@@ -1,5 +1,5 @@
-use Rattle.std.proofs.Common.{◌≡◌, bytes_eq, take, ap, sym, ◌∙◌, ◌++◌, ◌∷◌, []}
-use Rattle.std.proofs.lemmas.List.{take_more}
+use Rattle.std.proofs.Common.{◌≡◌, bytes_eq, take, refl, ap, sym, ◌∙◌, ◌++◌, ◌∷◌, []}
+use Rattle.std.proofs.lemmas.List.{take_more, take_all}
 use Rattle.kk_names.specs.Methods.{newest_first}
 use Rattle.kk_names.specs.Scopes.{number_in}
 use Rattle.kk_names.proofs.Tables.{number_here, number_elsewhere}
@@ -18,3 +18,10 @@ loop-bound-preserved c =
       | then-eq w ↦ w.number-is ∙ (number_here (take i scope) one name (sym same ∙ w.if-eq.true) ∙ taken)
       | else-eq w ↦ w.number-is ∙ (c.loop-bound.invariant ∙ (number_elsewhere (take i scope) one name (sym same ∙ w.if-eq.false) ∙ taken))
     ]
+
+pub loop-bound-init : goal.loop-bound-init
+loop-bound-init c = refl
+
+pub returns : goal.returns
+returns c =
+    c.loop-bound.invariant ∙ ap (λ all. number_in (newest_first all) c.args.name.now) (take_all c.loop-bound.bound-index c.args.scope.now c.loop-bound-test.false)

@@ -14,7 +14,7 @@ use Rattle.kk_parser.specs.Phrases.{Phrase, PhraseValue, token, opener, either, 
 use Rattle.kk_parser.specs.Reading.{fails_rule, fails_level, fails_front, fails_behind, fails_first, fails_second, fails_presence, finds_rule, finds_level, finds_both, finds_first, finds_second, finds_absence, finds_presence}
 use Rattle.kk_parser.specs.Views.{boxed_pattern}
 use Rattle.kk_parser.proofs.Lists.{Lists, lists_none, lists_one, lists_more, lists_end, lists_fails_first, lists_fails}
-use Rattle.kk_parser.proofs.Steps.{gives_up_in, gives_up_as_in, reads_made_as, reads_as_within, symbol_read, continues_start, continues_to, first_next, first_absent}
+use Rattle.kk_parser.proofs.Steps.{gives_up_in, gives_up_as_in, reads_made_as, reads_as_within, symbol_read, wildcard_read, continues_start, continues_to, first_next, first_absent}
 use Rattle.kk_parser.proofs.parser.Parser.+patterns.Goals as goal
 
 -- a constructor's pattern, or one in brackets
@@ -41,37 +41,30 @@ pattern-returns-clause-reads t c =
     } in
     subst (λ t. Read (rule pat) t c.args.self.now new) p.1 (finds_rule (finds_level p.2))
 
-pub open_pattern-returns-in_err-expect_wildcard-clause-reads : goal.open_pattern-returns-in_err-expect_wildcard-clause-reads
-open_pattern-returns-in_err-expect_wildcard-clause-reads t c =
-    let h = sym c.is_at_wildcard.ensures ∙ c.if-is_at_wildcard.true in
-    gives_up_as_in open_pattern (token wildcard) pattern_of boxed_pattern c.from_residual.result c.in_err-expect_wildcard.field-0.0
-    c.args.self.now c.args.self.now c.expect_wildcard.new.self (λ f r. fails_first h r) c.from_residual.ensures.1
-    c.in_err-expect_wildcard.ensures.reads
-
 pub open_pattern-returns-then-is_at_wildcard-clause-reads : goal.open_pattern-returns-then-is_at_wildcard-clause-reads
 open_pattern-returns-then-is_at_wildcard-clause-reads t c =
-    let h = sym c.is_at_wildcard.ensures ∙ c.if-is_at_wildcard.true in
-    reads_made_as open_pattern pattern_of boxed_pattern (inl tt) _ c.anything.result c.args.self.now c.expect_wildcard.new.self
-    c.anything.ensures refl (finds_first h c.in_ok-expect_wildcard.ensures.reads)
+    let h = sym c.is_at_wildcard.ensures.value ∙ c.if-is_at_wildcard.true in
+    reads_made_as open_pattern pattern_of boxed_pattern (inl tt) _ c.anything.result c.args.self.now c.advance.new.self c.anything.ensures refl
+    (finds_first h (wildcard_read c.args.self.now c.advance.new.self h c.advance.ensures.rest c.advance.ensures.depth))
 
 pub open_pattern-returns-in_err-name-clause-reads : goal.open_pattern-returns-in_err-name-clause-reads
 open_pattern-returns-in_err-name-clause-reads t c =
-    let h0 = sym c.is_at_wildcard.ensures ∙ c.if-is_at_wildcard.false in
+    let h0 = sym c.is_at_wildcard.ensures.value ∙ c.if-is_at_wildcard.false in
     let h = sym c.is_at_name.ensures.value ∙ c.if-is_at_name.true in
-    gives_up_as_in open_pattern (token name) pattern_of boxed_pattern c.from_residual-in_err-name.result c.in_err-name.field-0.0
+    gives_up_as_in open_pattern (token name) pattern_of boxed_pattern c.from_residual.result c.in_err-name.field-0.0
     c.args.self.now c.args.self.now c.identifier.new.self (λ f r. fails_second h0 (fails_first h r))
-    c.from_residual-in_err-name.ensures.1 c.in_err-name.ensures.reads
+    c.from_residual.ensures.1 c.in_err-name.ensures.reads
 
 pub open_pattern-returns-then-is_at_name-clause-reads : goal.open_pattern-returns-then-is_at_name-clause-reads
 open_pattern-returns-then-is_at_name-clause-reads t c =
-    let h0 = sym c.is_at_wildcard.ensures ∙ c.if-is_at_wildcard.false in
+    let h0 = sym c.is_at_wildcard.ensures.value ∙ c.if-is_at_wildcard.false in
     let h = sym c.is_at_name.ensures.value ∙ c.if-is_at_name.true in
     reads_made_as open_pattern pattern_of boxed_pattern (inr (inl c.in_ok-name.name)) _ c.pattern_variable.result c.args.self.now
     c.identifier.new.self c.pattern_variable.ensures refl (finds_second h0 (finds_first h c.in_ok-name.ensures.reads))
 
 pub open_pattern-returns-in-Some-clause-reads : goal.open_pattern-returns-in-Some-clause-reads
 open_pattern-returns-in-Some-clause-reads t c =
-    let h0 = sym c.is_at_wildcard.ensures ∙ c.if-is_at_wildcard.false in
+    let h0 = sym c.is_at_wildcard.ensures.value ∙ c.if-is_at_wildcard.false in
     let h1 = sym c.is_at_name.ensures.value ∙ c.if-is_at_name.false in
     let n = rw c.in-Some.is at c.number.ensures.takes in
     let fits : SFits w32 c.in-Some.value = search rules in
@@ -81,7 +74,7 @@ open_pattern-returns-in-Some-clause-reads t c =
 
 pub open_pattern-returns-then-is_at_constructor-clause-reads : goal.open_pattern-returns-then-is_at_constructor-clause-reads
 open_pattern-returns-then-is_at_constructor-clause-reads t c =
-    let h0 = sym c.is_at_wildcard.ensures ∙ c.if-is_at_wildcard.false in
+    let h0 = sym c.is_at_wildcard.ensures.value ∙ c.if-is_at_wildcard.false in
     let h1 = sym c.is_at_name.ensures.value ∙ c.if-is_at_name.false in
     let n = rw c.in_default.is at c.number.ensures.takes in
     let h = sym c.is_at_constructor.ensures ∙ c.if-is_at_constructor.true in
@@ -92,7 +85,7 @@ open_pattern-returns-then-is_at_constructor-clause-reads t c =
 
 pub open_pattern-returns-clause-reads : goal.open_pattern-returns-clause-reads
 open_pattern-returns-clause-reads t c =
-    let h0 = sym c.is_at_wildcard.ensures ∙ c.if-is_at_wildcard.false in
+    let h0 = sym c.is_at_wildcard.ensures.value ∙ c.if-is_at_wildcard.false in
     let h1 = sym c.is_at_name.ensures.value ∙ c.if-is_at_name.false in
     let n = rw c.in_default.is at c.number.ensures.takes in
     let h = sym c.is_at_constructor.ensures ∙ c.if-is_at_constructor.false in

@@ -1,7 +1,7 @@
-use Rattle.std.proofs.Common.{sym, ◌∙◌, refl}
+use Rattle.std.proofs.Common.{[], ◌∷◌, sym, ◌∙◌, refl}
 use Rattle.kk_syntax.specs.declared.token.Symbol.TheVariants.{EqualEqual, NotEqual, Less, LessEqual, Greater, GreaterEqual}
 use Rattle.kk_parser.specs.Grammar.{comparison, comparison_of}
-use Rattle.kk_parser.proofs.Operators.{alone, sooner, later, operator_found, operator_failed}
+use Rattle.kk_parser.proofs.Operators.{alone, sooner, later, operator_found, operator_failed, none_next}
 use Rattle.kk_parser.proofs.parser.Parser.comparison.Goals as goal
 
 pub returns-in_err-deepen-clause-reads : goal.returns-in_err-deepen-clause-reads
@@ -39,3 +39,7 @@ returns-in_err-deepen-6-clause-reads c = operator_failed comparison comparison_o
 
 pub returns-then-is_at-6-clause-reads : goal.returns-then-is_at-6-clause-reads
 returns-then-is_at-6-clause-reads c = operator_found comparison comparison_of GreaterEqual _ c.args.self.now c.deepen-then-is_at-6.new.self (later refl (later refl (later refl (later refl (later refl alone))))) (sym c.is_at-6.ensures.value ∙ c.if-is_at-6.true) refl c.in_ok-deepen-6.ensures.deepens
+
+pub returns-clause-reads : goal.returns-clause-reads
+returns-clause-reads c =
+    (none_next (EqualEqual ∷ NotEqual ∷ Less ∷ LessEqual ∷ Greater ∷ GreaterEqual ∷ []) c.args.self.now.rest.now (sym c.is_at.ensures.value ∙ c.if-is_at.false, (sym c.is_at-2.ensures.value ∙ c.if-is_at-2.false, (sym c.is_at-3.ensures.value ∙ c.if-is_at-3.false, (sym c.is_at-4.ensures.value ∙ c.if-is_at-4.false, (sym c.is_at-5.ensures.value ∙ c.if-is_at-5.false, (sym c.is_at-6.ensures.value ∙ c.if-is_at-6.false, tt)))))), refl, refl)

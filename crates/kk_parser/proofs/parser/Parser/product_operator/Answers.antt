@@ -1,7 +1,7 @@
-use Rattle.std.proofs.Common.{sym, ◌∙◌, refl}
+use Rattle.std.proofs.Common.{[], ◌∷◌, sym, ◌∙◌, refl}
 use Rattle.kk_syntax.specs.declared.token.Symbol.TheVariants.{Star, Slash, Percent}
 use Rattle.kk_parser.specs.Grammar.{product_operator, product_operator_of}
-use Rattle.kk_parser.proofs.Operators.{alone, sooner, later, operator_found, operator_failed}
+use Rattle.kk_parser.proofs.Operators.{alone, sooner, later, operator_found, operator_failed, none_next}
 use Rattle.kk_parser.proofs.parser.Parser.product_operator.Goals as goal
 
 pub returns-in_err-deepen-clause-reads : goal.returns-in_err-deepen-clause-reads
@@ -21,3 +21,7 @@ returns-in_err-deepen-3-clause-reads c = operator_failed product_operator produc
 
 pub returns-then-is_at-3-clause-reads : goal.returns-then-is_at-3-clause-reads
 returns-then-is_at-3-clause-reads c = operator_found product_operator product_operator_of Percent _ c.args.self.now c.deepen-then-is_at-3.new.self (later refl (later refl alone)) (sym c.is_at-3.ensures.value ∙ c.if-is_at-3.true) refl c.in_ok-deepen-3.ensures.deepens
+
+pub returns-clause-reads : goal.returns-clause-reads
+returns-clause-reads c =
+    (none_next (Star ∷ Slash ∷ Percent ∷ []) c.args.self.now.rest.now (sym c.is_at.ensures.value ∙ c.if-is_at.false, (sym c.is_at-2.ensures.value ∙ c.if-is_at-2.false, (sym c.is_at-3.ensures.value ∙ c.if-is_at-3.false, tt))), refl, refl)
