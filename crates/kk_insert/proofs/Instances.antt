@@ -10,8 +10,7 @@ use Rattle.kk_counted.specs.CountedCodes as Counted
 use Rattle.kk_counted.specs.CountedCodes.{CountedFunction}
 use Rattle.kk_counted.specs.CountedForms.{block_code}
 use Rattle.kk_counted.specs.declared.counted.CountedFun.{CountedFun}
-use Rattle.kk_counted.specs.Emitting.{HaveParameters}
-use Rattle.kk_counted.specs.Programs.{function_of, IsFunctionOf}
+use Rattle.kk_counted.specs.Programs.{function_of, IsFunctionOf, HaveParameters}
 use Rattle.kk_counted.specs.Spending.{at_positions, numbers_from, is_owned, HasAsMany, SpendsParameters}
 use Rattle.kk_counted.proofs.PlaceLists.{next_one}
 use Rattle.kk_insert.specs.Insertion.{dropping, lent_in, own, insert, inserted_function, inserted_functions}

@@ -1,16 +1,17 @@
 ghost use Rattle.std.specs.Prelude.{◌≡◌, ◌∷◌, [], map, IfOk};
 ghost use Rattle.kk_syntax.specs.PositionsOf.{positions_of};
+ghost use Rattle.kk_syntax.specs.Shapes.{without};
 ghost use Rattle.kk_core.specs.Codes.{computes, uses, unpacks, runs, step_piece, arm_code};
 ghost use Rattle.kk_core.specs.Codes.{block_code as core_block_code, last_code as core_last_code};
 ghost use Rattle.kk_counted.specs.CountedCodes.{case};
 ghost use Rattle.kk_counted.specs.CountedForms.{block_code, last_code, decisions_of};
-ghost use Rattle.kk_insert.specs.Insertion.{owns, wants, dups, own, insert, dropping};
+ghost use Rattle.kk_insert.specs.Insertion.{owns, wants, dups, back, own, insert, dropping};
 ghost use Rattle.kk_insert.specs.Steps.{own_before, insert_before};
 ghost use Rattle.kk_insert.specs.Parts.{own_each, insert_each, part_of, part_in, arm_in};
 
 use crate::passing::{lends, used};
 use crate::variables::{before, common, is_in, owns, wants, without};
-use crate::writing::{put_before, put_dropping, put_dups};
+use crate::writing::{put_before, put_dropping, put_dups, put_opening};
 use kk_base::NoMemory;
 use kk_core::{Arm, Decisions};
 use kk_counted::{Block, Last, Step, copied_decisions};
@@ -83,20 +84,44 @@ impl<'a> Insertion<'a> {
             ≡ insert_before (positions_of self.now.positions.now) self.now.lent.now (computes variable form arguments.now)
             rest.owned.items (block_code rest.block)) }
     {
+        let spent = used(self.alloc, self.positions, form, arguments)?;
+        let given = lends(self.alloc, self.positions, form, arguments)?;
+        let Part {
+            owned: held,
+            mut block,
+        } = self.behind(variable, &given, rest)?;
+        let copy = Vec::from_slice(self.alloc, arguments)?;
+        put_before(&mut block, Step::Let(variable, form, copy))?;
+        self.using_up(&held, &spent, block)
+    }
+
+    // What comes behind a form: what was only lent to it is dropped, and its value where nothing uses it.
+    fn behind(&self, variable: u32, given: &[u32], rest: Part) -> Result<Part, NoMemory>
+        ensures owned { IfOk result (λ part. part.owned.items
+            ≡ owns self.now.lent.now given.now (without (variable ∷ []) rest.owned.items)) }
+        ensures code { IfOk result (λ part. block_code part.block
+            ≡ back self.now.lent.now given.now variable rest.owned.items (block_code rest.block)) }
+    {
         let Part {
             owned: now,
             mut block,
         } = rest;
-        let spent = used(self.alloc, self.positions, form, arguments)?;
-        let given = lends(self.alloc, self.positions, form, arguments)?;
         let kept = without(self.alloc, &[variable], &now)?;
-        let held = owns(self.alloc, self.lent, &given, &kept)?;
-        let owned = owns(self.alloc, self.lent, &spent, &held)?;
-        let wanted = wants(self.alloc, self.lent, &spent, &held)?;
+        let held = owns(self.alloc, self.lent, given, &kept)?;
         put_dropping(self.alloc, &mut block, &[variable], &now)?;
         put_dropping(self.alloc, &mut block, &held, &kept)?;
-        let copy = Vec::from_slice(self.alloc, arguments)?;
-        put_before(&mut block, Step::Let(variable, form, copy))?;
+        Ok(Part { owned: held, block })
+    }
+
+    // A block before which variables are used up, where `left` is owned behind that.
+    fn using_up(&self, left: &[u32], spent: &[u32], block: Block) -> Result<Part, NoMemory>
+        ensures owned { IfOk result (λ part. part.owned.items ≡ owns self.now.lent.now spent.now left.now) }
+        ensures code { IfOk result (λ part. block_code part.block
+            ≡ dups (wants self.now.lent.now spent.now left.now) (block_code block)) }
+    {
+        let mut block = block;
+        let owned = owns(self.alloc, self.lent, spent, left)?;
+        let wanted = wants(self.alloc, self.lent, spent, left)?;
         put_dups(&mut block, &wanted)?;
         Ok(Part { owned, block })
     }
@@ -132,13 +157,8 @@ impl<'a> Insertion<'a> {
         let kept = without(self.alloc, fields, &now)?;
         let owned = owns(self.alloc, self.lent, &[variable], &kept)?;
         let in_use = common(self.alloc, &now, fields)?;
-        let copy = Vec::from_slice(self.alloc, fields)?;
-        if is_in(self.lent, variable) || is_in(&now, variable) {
-            put_dups(&mut block, &in_use)?;
-            put_before(&mut block, Step::Read(variable, by, copy))?;
-        } else {
-            put_before(&mut block, Step::Open(variable, by, copy, in_use))?;
-        }
+        let stays = is_in(self.lent, variable) | is_in(&now, variable);
+        put_opening(self.alloc, &mut block, stays, variable, by, fields, in_use)?;
         Ok(Part { owned, block })
     }
 
@@ -196,14 +216,8 @@ impl<'a> Insertion<'a> {
         ensures code { IfOk result (λ part. block_code part.block
             ≡ dups (wants self.now.lent.now spent.now left.now) (last_code last)) }
     {
-        let owned = owns(self.alloc, self.lent, spent, left)?;
-        let wanted = wants(self.alloc, self.lent, spent, left)?;
-        let mut block = Block {
-            steps: Vec::new(self.alloc),
-            last,
-        };
-        put_dups(&mut block, &wanted)?;
-        Ok(Part { owned, block })
+        let steps = Vec::new(self.alloc);
+        self.using_up(left, spent, Block { steps, last })
     }
 
     fn case(

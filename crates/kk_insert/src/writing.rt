@@ -1,6 +1,6 @@
 ghost use Rattle.std.specs.Prelude.{◌≡◌, OnOk};
 ghost use Rattle.kk_counted.specs.CountedForms.{block_code, put, step_move};
-ghost use Rattle.kk_insert.specs.Insertion.{dups, drops, dropping};
+ghost use Rattle.kk_insert.specs.Insertion.{dups, drops, dropping, opening};
 
 use crate::variables::without;
 use kk_base::NoMemory;
@@ -51,4 +51,25 @@ pub fn put_dropping(
     let unused = without(alloc, now, all)?;
     put_drops(block, &unused)?;
     Ok(())
+}
+
+/// Puts the opening of a cell before a block, with the fields in use: a reading where the cell stays, and else what gives the
+/// variable up.
+pub fn put_opening(
+    alloc: Global,
+    block: &mut Block,
+    stays: bool,
+    variable: u32,
+    by: u32,
+    fields: &[u32],
+    in_use: Vec<u32>,
+) -> Result<(), NoMemory>
+    ensures { OnOk result (block_code block.new ≡ opening stays variable by fields.now in_use.items (block_code block.old)) }
+{
+    let copy = Vec::from_slice(alloc, fields)?;
+    if stays {
+        put_dups(block, &in_use)?;
+        return put_before(block, Step::Read(variable, by, copy));
+    }
+    put_before(block, Step::Open(variable, by, copy, in_use))
 }

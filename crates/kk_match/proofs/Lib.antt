@@ -12,6 +12,7 @@ pub mod Growth
 pub mod RowOrder
 pub mod StateEquality
 pub mod Looks
+pub mod Loops
 pub mod ConstructorValues
 pub mod Matching
 pub mod Places

@@ -119,16 +119,13 @@ graph_some types most start nodes graph =
     omega (arith, is, long)
 
 -- the nodes that are found of rows are a graph, and some
-pub graph_of_rows : {A Q : Type 0} (types : List ℕ) (most : ℕ) (rows : List A) (given asked : List Q) (view : A → Pattern) (parts : Q → List Part) (state : StateTree)
-    (found : Option (List Node)) (nodes : List Node)
-    → state ≡ lines_of 0 (map parts given) → given ≡ asked → map parts asked ≡ map (λ x. parts_of types [] (view x)) rows
-    → found ≡ Some nodes → IsGraph types most state found
-    → IsGraphOf types most (lines_from types 0 (map view rows)) (map node_tree nodes) × (suc (length nodes - 1) ≡ length (map node_tree nodes))
-graph_of_rows types most rows given asked view parts state found nodes one two three is graph =
-    let start = state_of_rows types rows given asked view parts state one two three in
-    let whole = subst (λ s. IsGraphOf types most s (map node_tree nodes)) start (subst (IsGraph types most state) is graph) in
+pub graph_known : (types : List ℕ) (most : ℕ) (start : StateTree) (found : Option (List Node)) (nodes : List Node)
+    → found ≡ Some nodes → IsGraph types most start found
+    → IsGraphOf types most start (map node_tree nodes) × (suc (length nodes - 1) ≡ length (map node_tree nodes))
+graph_known types most start found nodes is graph =
+    let whole = subst (IsGraph types most start) is graph in
     let long = length-map nodes node_tree in
-    let some = graph_some types most (lines_from types 0 (map view rows)) (map node_tree nodes) whole in
+    let some = graph_some types most start (map node_tree nodes) whole in
     (whole, omega (arith, long, some))
 
 module _ (types : List ℕ) (p : Pattern) (ps : List Pattern) where

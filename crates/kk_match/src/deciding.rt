@@ -1,9 +1,10 @@
 ghost use Rattle.std.specs.Prelude.{◌≡◌, ◌<◌, ◌≤◌, ◌-◌, true, [], length, map, option_map, count_by, IfOk};
 ghost use Rattle.kk_core.specs.CaseLengths.{tests_length};
 ghost use Rattle.kk_core.specs.Decisions.{node_tree, AreOrderly};
-ghost use Rattle.kk_match.specs.Decided.{DecidesRows, IsFormed, IsBrieflyFormed, is_test, most_tests_length, brief_length, rows_in_turn};
-ghost use Rattle.kk_match.specs.Graphs.{lines_of};
+ghost use Rattle.kk_match.specs.Decided.{DecidesRows, IsFormed, IsBrieflyFormed, is_test, most_tests, most_tests_length, brief_length, rows_in_turn};
+ghost use Rattle.kk_match.specs.Graphs.{lines_of, lines_from};
 ghost use Rattle.kk_match.specs.GraphGrowth.{IsGraph};
+ghost use Rattle.kk_match.specs.InTurn.{with_rows};
 ghost use Rattle.kk_match.specs.Parts.{types_of, parts_of};
 ghost use Rattle.kk_match.specs.Turned.{turned};
 ghost use Rattle.kk_match.specs.Views.{part_of, line_tree, state_tree, types_in, patterns_in, nodes_in};
@@ -45,10 +46,7 @@ pub fn decide(alloc: Global, rows: &Rows<'_>) -> Result<Decisions, NoMemory>
     ensures rows { IfOk result (λ found. found.rows ≡ length rows.now.patterns.items) }
 {
     let count = rows.patterns.len();
-    let most = most_tests(&rows.patterns)?;
-    let questions = questions_of_rows(alloc, rows)?;
-    let state = start(alloc, &questions)?;
-    match graph(alloc, rows.constructors, most, state)? {
+    match graph_of_rows(alloc, rows)? {
         Some(nodes) => finished(alloc, nodes, count, false),
         None => row_by_row(alloc, rows),
     }
@@ -86,10 +84,29 @@ fn row_by_row(alloc: Global, rows: &Rows<'_>) -> Result<Decisions, NoMemory>
     ensures by_rows { IfOk result (λ found. found.by_rows ≡ true) }
 {
     let count = rows.patterns.len();
+    let nodes = rows_one_by_one(alloc, rows)?;
+    finished(alloc, nodes, count, true)
+}
+
+// The nodes of the graph of rows, each behind those that it names. None where more states than may test.
+fn graph_of_rows(alloc: Global, rows: &Rows<'_>) -> Result<Option<Vec<Node>>, NoMemory>
+    ensures { IfOk result (λ found. IsGraph (types_in rows.now) (most_tests (patterns_in rows.now))
+        (lines_from (types_in rows.now) 0 (patterns_in rows.now)) (option_map (λ nodes. nodes.items) found)) }
+{
+    let most = most_tests(&rows.patterns)?;
     let questions = questions_of_rows(alloc, rows)?;
     let state = start(alloc, &questions)?;
-    let nodes = in_turn(alloc, state)?;
-    finished(alloc, nodes, count, true)
+    graph(alloc, rows.constructors, most, state)
+}
+
+// The nodes that try rows one after the other, each behind those that it names.
+fn rows_one_by_one(alloc: Global, rows: &Rows<'_>) -> Result<Vec<Node>, NoMemory>
+    ensures { IfOk result (λ nodes. map node_tree nodes.items
+        ≡ with_rows (lines_from (types_in rows.now) 0 (patterns_in rows.now)) []) }
+{
+    let questions = questions_of_rows(alloc, rows)?;
+    let state = start(alloc, &questions)?;
+    in_turn(alloc, state)
 }
 
 // What each row asks.

@@ -1,10 +1,9 @@
 ghost use Rattle.std.specs.Prelude.{◌≡◌, ◌&&◌, not, [], map, IfOk, OnOk};
-ghost use Rattle.kk_core.specs.Decisions.{is_answer};
 ghost use Rattle.kk_match.specs.Outcomes.{is_listed, with_parts, with_lines, unlisted, unlisted_from};
 ghost use Rattle.kk_match.specs.Parts.{types_of, is_kind};
 ghost use Rattle.kk_match.specs.Views.{part_of, state_tree};
 
-use crate::question::Question;
+use crate::question::{Question, is_answer};
 use crate::state::State;
 use kk_base::NoMemory;
 use kk_core::Answer;
@@ -26,16 +25,6 @@ fn is_kind(constructors: &[GroundConstructor], asked: Answer, found: Answer) -> 
                 _ => false,
             }
         }
-        _ => false,
-    }
-}
-
-fn is_answer(one: Answer, other: Answer) -> bool
-    ensures { result ≡ is_answer one other }
-{
-    match (one, other) {
-        (Answer::Number(one), Answer::Number(other)) => one == other,
-        (Answer::Constructor(one), Answer::Constructor(other)) => one == other,
         _ => false,
     }
 }

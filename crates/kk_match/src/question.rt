@@ -1,5 +1,6 @@
 ghost use Rattle.std.specs.Prelude.{◌≡◌, ◌==◌, ◌++◌, [], ◌∷◌, map, option_map, count_by, slice_get, IfOk, OnOk};
 ghost use Rattle.kk_syntax.specs.Patterns.{pattern_tree, patterns_of};
+ghost use Rattle.kk_core.specs.Decisions.{is_answer};
 ghost use Rattle.kk_match.specs.Parts.{types_of, has_several, parts_of, parts_of_all};
 ghost use Rattle.kk_match.specs.Views.{part_of};
 
@@ -14,6 +15,17 @@ pub struct Question {
     /// The position: the number of a field of the value that is matched, then that of a field of its cell, and so on.
     pub at: Vec<u32>,
     pub asked: Answer,
+}
+
+/// Whether two answers are the same.
+pub fn is_answer(one: Answer, other: Answer) -> bool
+    ensures { result ≡ is_answer one other }
+{
+    match (one, other) {
+        (Answer::Number(one), Answer::Number(other)) => one == other,
+        (Answer::Constructor(one), Answer::Constructor(other)) => one == other,
+        _ => false,
+    }
 }
 
 // The type of a constructor, if there is that constructor.

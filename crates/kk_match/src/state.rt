@@ -2,7 +2,7 @@ ghost use Rattle.std.specs.Prelude.{◌≡◌, ◌<◌, map, option_map, IfOk, N
 ghost use Rattle.kk_match.specs.Graphs.{left_after, agrees, after, test_of, row_of};
 ghost use Rattle.kk_match.specs.Views.{part_of, state_tree};
 
-use crate::question::Question;
+use crate::question::{Question, is_answer};
 use kk_base::NoMemory;
 use kk_core::Answer;
 use std::alloc::Global;
@@ -91,7 +91,7 @@ fn is_answered(outcome: Option<Answer>, asked: Answer) -> bool
     ensures { result ≡ agrees outcome asked }
 {
     match outcome {
-        Some(found) => found == asked,
+        Some(found) => is_answer(found, asked),
         None => false,
     }
 }

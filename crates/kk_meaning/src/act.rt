@@ -26,12 +26,12 @@ use kk_syntax::{Form, Fun, Program};
 // In what follows `older` is the number of frames without that of the form, if the form has one.
 impl<'a> Machine<'a> {
     /// A form has all its arguments.
-    pub fn finish(&mut self, form: Form, values: Vec<Value>, older: usize) -> Result<Turn, NoMemory>
+    pub fn finish(&mut self, form: Form, values: &[Value], older: usize) -> Result<Turn, NoMemory>
         requires fits { Fits self.old }
         requires store { IsOlder (configuration_of self.old).store }
         requires below { IsBelow older self.old.frames.items }
         requires going { end_at (configuration_of self.old).control ≡ None }
-        ensures { Performs (form_step (setting_of self.old) form (map value_view values.items)
+        ensures { Performs (form_step (setting_of self.old) form (map value_view values.now)
             (frames_below older self.old) (configuration_of self.old))
             self.old self.new result }
     {
@@ -45,22 +45,22 @@ impl<'a> Machine<'a> {
                 Ok(Turn::of_print(piece))
             }
             Form::Unary(operator) => {
-                let result = unary(operator, argument(values.as_slice(), 0));
+                let result = unary(operator, argument(values, 0));
                 Ok(self.give_back(result, older))
             }
             Form::Binary(operator) => {
-                let left = argument(values.as_slice(), 0).integer();
-                let right = argument(values.as_slice(), 1).integer();
+                let left = argument(values, 0).integer();
+                let right = argument(values, 1).integer();
                 Ok(self.give_back(binary(operator, left, right), older))
             }
             Form::Print(form) => {
-                let number = argument(values.as_slice(), 0).integer();
+                let number = argument(values, 0).integer();
                 let piece = number_piece(self.alloc, form, number)?;
                 self.give_back(Value::Unit, older);
                 Ok(Turn::of_print(piece))
             }
             Form::Construct(constructor) => self.construct(constructor, values, older),
-            Form::Call(function) => self.call(function, values.as_slice(), older),
+            Form::Call(function) => self.call(function, values, older),
         }
     }
 
@@ -100,27 +100,28 @@ impl<'a> Machine<'a> {
     fn construct(
         &mut self,
         constructor: u32,
-        values: Vec<Value>,
+        values: &[Value],
         older: usize,
     ) -> Result<Turn, NoMemory>
         requires fits { Fits self.old }
         requires store { IsOlder (configuration_of self.old).store }
         requires below { IsBelow older self.old.frames.items }
         ensures { Performs (form_step (setting_of self.old) (Construct constructor)
-            (map value_view values.items) (frames_below older self.old) (configuration_of self.old))
+            (map value_view values.now) (frames_below older self.old) (configuration_of self.old))
             self.old self.new result }
     {
         if values.is_empty() {
             return Ok(self.give_back(Value::Constant(constructor), older));
         }
-        if self.heap_is_full(values.as_slice(), older)? {
+        if self.heap_is_full(values, older)? {
             self.control = Control::Stopped(Stop::HeapFull);
             return Ok(Turn::HeapFull);
         }
         let at = self.store.len();
+        let fields = Vec::from_slice(self.alloc, values)?;
         self.store.push(Cell {
             made_by: constructor,
-            fields: values,
+            fields,
         })?;
         Ok(self.give_back(Value::Place(at), older))
     }

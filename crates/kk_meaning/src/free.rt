@@ -1,7 +1,7 @@
 ghost use Rattle.std.specs.Prelude.{◌≡◌, [], ◌∷◌, ◌++◌, map, OnOk};
 ghost use Rattle.kk_syntax.specs.Patterns.{pattern_tree, patterns_of};
 ghost use Rattle.kk_syntax.specs.Trees.{expr_tree, trees_of, row_tree, rows_of, statement_tree};
-ghost use Rattle.kk_syntax.specs.Shapes.{bound, bound_all, bound_by, without, free, free_all, free_rows};
+ghost use Rattle.kk_syntax.specs.Shapes.{bound as bound_in, bound_all, bound_by, without, free, free_all, free_rows};
 ghost use Rattle.kk_source.specs.Live.{awaited as awaited_of};
 ghost use Rattle.kk_meaning.specs.Frames.{block_tree};
 ghost use Rattle.kk_meaning.specs.FreeOf.{free_of_statements, bound_by_statements};
@@ -82,7 +82,7 @@ impl FreeVariables {
     {
         for row in rows {
             let outside = self.bound.len();
-            self.bind_pattern(&row.pattern)?;
+            bind_pattern(&mut self.bound, &row.pattern)?;
             self.of_expr(&row.body)?;
             self.bound.truncate(outside);
         }
@@ -97,7 +97,7 @@ impl FreeVariables {
             ++ without (self.old.bound.items ++ awaited_of awaited) (free (block_tree rest.entry))) }
     {
         let outside = self.bound.len();
-        self.bind_awaited(awaited)?;
+        bind_awaited(&mut self.bound, awaited)?;
         self.of_statements(rest.statements)?;
         self.of_expr(rest.value)?;
         self.bound.truncate(outside);
@@ -114,17 +114,8 @@ impl FreeVariables {
     {
         for statement in statements {
             self.of_expr(&statement.value)?;
-            self.bind_statement(statement.binder)?;
+            bind_statement(&mut self.bound, statement.binder)?;
         }
-        Ok(())
-    }
-
-    // Binds a variable from here on.
-    fn bind(&mut self, variable: u32) -> Result<(), NoMemory>
-        ensures bound { OnOk result (self.new.bound.items ≡ self.old.bound.items ++ variable ∷ []) }
-        ensures found { self.new.found.items ≡ self.old.found.items }
-    {
-        self.bound.push(variable)?;
         Ok(())
     }
 
@@ -139,52 +130,55 @@ impl FreeVariables {
         }
         Ok(())
     }
+}
 
-    // Binds the variable that is still to be bound, if there is one.
-    fn bind_awaited(&mut self, awaited: Option<u32>) -> Result<(), NoMemory>
-        ensures bound { OnOk result (self.new.bound.items ≡ self.old.bound.items ++ awaited_of awaited) }
-        ensures found { self.new.found.items ≡ self.old.found.items }
-    {
-        match awaited {
-            None => Ok(()),
-            Some(variable) => self.bind(variable),
-        }
-    }
+// Binds a variable from here on.
+fn bind(bound: &mut Vec<u32>, variable: u32) -> Result<(), NoMemory>
+    ensures { OnOk result (bound.new.items ≡ bound.old.items ++ variable ∷ []) }
+{
+    bound.push(variable)?;
+    Ok(())
+}
 
-    // Binds the variable of a statement, if it has one.
-    fn bind_statement(&mut self, binder: Binder) -> Result<(), NoMemory>
-        ensures bound { OnOk result (self.new.bound.items ≡ self.old.bound.items ++ bound_by binder) }
-        ensures found { self.new.found.items ≡ self.old.found.items }
-    {
-        match binder {
-            Binder::Nothing | Binder::Wildcard => Ok(()),
-            Binder::Variable(variable) => self.bind(variable),
-        }
+// Binds the variable that is still to be bound, if there is one.
+fn bind_awaited(bound: &mut Vec<u32>, awaited: Option<u32>) -> Result<(), NoMemory>
+    ensures { OnOk result (bound.new.items ≡ bound.old.items ++ awaited_of awaited) }
+{
+    match awaited {
+        None => Ok(()),
+        Some(variable) => bind(bound, variable),
     }
+}
 
-    // Binds the variables of a pattern.
-    #[cycle(bind_pattern)]
-    fn bind_pattern(&mut self, pattern: &Pat) -> Result<(), NoMemory>
-        ensures bound { OnOk result (self.new.bound.items ≡ self.old.bound.items ++ bound (pattern_tree pattern.now)) }
-        ensures found { self.new.found.items ≡ self.old.found.items }
-    {
-        match pattern {
-            Pat::Wildcard | Pat::Number(_) => Ok(()),
-            Pat::Variable(variable) => self.bind(*variable),
-            Pat::Constructor(_, parts) => self.bind_patterns(parts),
-        }
+// Binds the variable of a statement, if it has one.
+fn bind_statement(bound: &mut Vec<u32>, binder: Binder) -> Result<(), NoMemory>
+    ensures { OnOk result (bound.new.items ≡ bound.old.items ++ bound_by binder) }
+{
+    match binder {
+        Binder::Nothing | Binder::Wildcard => Ok(()),
+        Binder::Variable(variable) => bind(bound, variable),
     }
+}
 
-    // Binds the variables of several patterns.
-    #[cycle(bind_pattern)]
-    fn bind_patterns(&mut self, patterns: &[Pat]) -> Result<(), NoMemory>
-        ensures bound { OnOk result (self.new.bound.items
-            ≡ self.old.bound.items ++ bound_all (patterns_of (map pattern_tree patterns.now))) }
-        ensures found { self.new.found.items ≡ self.old.found.items }
-    {
-        for pattern in patterns {
-            self.bind_pattern(pattern)?;
-        }
-        Ok(())
+// Binds the variables of a pattern.
+#[cycle(bind_pattern)]
+fn bind_pattern(bound: &mut Vec<u32>, pattern: &Pat) -> Result<(), NoMemory>
+    ensures { OnOk result (bound.new.items ≡ bound.old.items ++ bound_in (pattern_tree pattern.now)) }
+{
+    match pattern {
+        Pat::Wildcard | Pat::Number(_) => Ok(()),
+        Pat::Variable(variable) => bind(bound, *variable),
+        Pat::Constructor(_, parts) => bind_patterns(bound, parts),
     }
+}
+
+// Binds the variables of several patterns.
+#[cycle(bind_pattern)]
+fn bind_patterns(bound: &mut Vec<u32>, patterns: &[Pat]) -> Result<(), NoMemory>
+    ensures { OnOk result (bound.new.items ≡ bound.old.items ++ bound_all (patterns_of (map pattern_tree patterns.now))) }
+{
+    for pattern in patterns {
+        bind_pattern(bound, pattern)?;
+    }
+    Ok(())
 }

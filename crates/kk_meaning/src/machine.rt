@@ -156,7 +156,7 @@ impl<'a> Machine<'a> {
             }
             None => {
                 let older = self.frames.len();
-                self.finish(form, Vec::new(self.alloc), older)
+                self.finish(form, &[], older)
             }
         }
     }

@@ -64,7 +64,7 @@ fn matches(
             })?;
             Ok(true)
         }
-        Pat::Number(number) => Ok(value == Value::Integer(*number)),
+        Pat::Number(number) => Ok(value.is_integer(*number)),
         Pat::Constructor(constructor, parts) => {
             matches_parts(store, *constructor, parts, value, bound)
         }

@@ -44,7 +44,7 @@ impl<'a> Machine<'a> {
                     None => {
                         let values = with_last(self.alloc, values.as_slice(), value)?;
                         let older = self.frames.len() - 1;
-                        self.finish(form, values, older)
+                        self.finish(form, &values, older)
                     }
                 }
             }

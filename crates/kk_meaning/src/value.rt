@@ -1,11 +1,12 @@
 ghost use Rattle.std.specs.Prelude.{◌≡◌, map};
 ghost use Rattle.kk_meaning.specs.View.{value_view};
 ghost use Rattle.kk_source.specs.FormEffects.{argument as argument_of, byte_value, integer_of, is_true, truth};
+ghost use Rattle.kk_source.specs.Matching.{is_integer};
 
 use kk_syntax::Program;
 
 /// What an expression comes to.
-#[derive(Clone, Copy, PartialEq, Eq)]
+#[derive(Clone, Copy)]
 pub enum Value {
     Integer(i32),
     /// `()`
@@ -45,6 +46,16 @@ impl Value {
         match self {
             Value::Constant(constructor) => constructor == Program::TRUE,
             Value::Integer(_) | Value::Unit | Value::Place(_) => false,
+        }
+    }
+
+    /// Whether it is that integer.
+    pub fn is_integer(self, number: i32) -> bool
+        ensures { result ≡ is_integer number (value_view self) }
+    {
+        match self {
+            Value::Integer(found) => found == number,
+            Value::Unit | Value::Constant(_) | Value::Place(_) => false,
         }
     }
 

@@ -6,10 +6,9 @@ use Rattle.kk_match.specs.Graphs.{lines_from}
 use Rattle.kk_match.specs.InTurn.{with_rows}
 use Rattle.kk_match.specs.Parts.{types_of}
 use Rattle.kk_match.specs.Turned.{turned}
-use Rattle.kk_match.specs.Views.{part_of}
 use Rattle.kk_match.proofs.TestAnswers.{turns_ask}
 use Rattle.kk_match.proofs.RowLengths.{turns_decide, turns_lean}
-use Rattle.kk_match.proofs.NodeDecisions.{also, state_of_rows, turn_some, turn_orderly}
+use Rattle.kk_match.proofs.NodeDecisions.{also, turn_some, turn_orderly}
 use Rattle.kk_match.proofs.deciding.row_by_row.Goals as goal
 
 pub finished-requires : goal.finished-requires
@@ -18,9 +17,7 @@ finished-requires c =
     let types = types_of rows.constructors.now in
     let ps = map (λ p. pattern_tree p.now) rows.patterns.items in
     let nodes = map node_tree c.in_ok-nodes.nodes.items in
-    let start = state_of_rows types rows.patterns.items c.deref.result.now _ (λ p. pattern_tree p.now) (λ q. map part_of q.items) _
-    c.in_ok-state.ensures c.deref.ensures.value c.in_ok-questions.ensures in
-    let is : nodes ≡ with_rows (lines_from types 0 ps) [] = c.in_ok-nodes.ensures ∙ ap (λ s. with_rows s []) start in
+    let is : nodes ≡ with_rows (lines_from types 0 ps) [] = c.in_ok-nodes.ensures in
     let wide : length ps ≡ length rows.patterns.items = length-map rows.patterns.items (λ p. pattern_tree p.now) in
     let given = c.requires in
     let there : 0 < length ps = omega (arith, wide, given) in
@@ -38,12 +35,10 @@ returns-clause-nodes c =
     let types = types_of c.args.rows.now.constructors.now in
     let patterns = c.args.rows.now.patterns.items in
     let nodes = map node_tree c.in_ok-nodes.nodes.items in
-    let start = state_of_rows types patterns c.deref.result.now _ (λ p. pattern_tree p.now) (λ q. map part_of q.items) _
-    c.in_ok-state.ensures c.deref.ensures.value c.in_ok-questions.ensures in
     let long : length nodes ≡ length c.in_ok-nodes.nodes.items = length-map c.in_ok-nodes.nodes.items node_tree in
     also c.finished.result c.finished.ensures.nodes
     (λ found same. same ∙ (ap (λ n. turned (n - 1) nodes) (sym long)
-    ∙ ap (λ ns. turned (length ns - 1) ns) (c.in_ok-nodes.ensures ∙ ap (λ s. with_rows s []) start)))
+    ∙ ap (λ ns. turned (length ns - 1) ns) c.in_ok-nodes.ensures))
 
 pub returns-clause-decides : goal.returns-clause-decides
 returns-clause-decides c =

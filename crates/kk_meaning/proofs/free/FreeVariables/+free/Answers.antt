@@ -42,11 +42,10 @@ of_rows-loop-row-preserved t c =
     let others = free_rows (rows_of (map row_tree (drop (c.loop-row.row-index + 1) c.args.rows.now))) in
     let kept : c.truncate.new.self.items ≡ bs =
     c.truncate.ensures.items
-    ∙ front_again bs cs _ c.len-outside.result (c.len-outside.ensures ∙ now.bound.ok.0) (c.in_ok-of_expr.ensures.bound ∙ c.in_ok-bind_pattern.ensures.bound) in
+    ∙ front_again bs cs _ c.len-outside.result (c.len-outside.ensures ∙ now.bound.ok.0) (c.in_ok-of_expr.ensures.bound ∙ c.in_ok-bind_pattern.ensures) in
     let more : c.of_expr.new.self.found.items ≡ now.found.items ++ without (bs ++ cs) (free (expr_tree row.body)) =
     c.in_ok-of_expr.ensures.found
-    ∙ (ap (λ l. l ++ without c.bind_pattern.new.self.bound.items (free (expr_tree row.body))) c.in_ok-bind_pattern.ensures.found
-    ∙ ap (λ l. now.found.items ++ without l (free (expr_tree row.body))) c.in_ok-bind_pattern.ensures.bound) in
+    ∙ ap (λ l. now.found.items ++ without l (free (expr_tree row.body))) c.in_ok-bind_pattern.ensures in
     record {
       bound = kept ∙ inv.bound;
       found =
@@ -64,15 +63,15 @@ of_statements-loop-statement-preserved t c =
     let rest = next_statement c.args.statements.now c.loop-statement.statement-index statement c.statement-item.is (omega arith) in
     let bs = now.bound.items in
     let cs = bound_by statement.binder in
-    let bound_is : c.bind_statement.new.self.bound.items ≡ bs ++ cs =
-    c.in_ok-bind_statement.ensures.bound ∙ ap (λ l. l ++ cs) c.in_ok-of_expr.ensures.bound in
+    let bound_is : c.bind_statement.new.bound.items ≡ bs ++ cs =
+    c.in_ok-bind_statement.ensures ∙ ap (λ l. l ++ cs) c.in_ok-of_expr.ensures.bound in
     record {
       bound =
           ap (λ l. l ++ bound_by_statements later) bound_is
           ∙ (append_assoc bs cs (bound_by_statements later)
           ∙ (ap (λ left. bs ++ bound_by_statements left) (sym rest) ∙ inv.bound));
       found =
-          ap (λ l. c.bind_statement.new.self.found.items ++ without l (free_of_statements later)) bound_is
-          ∙ found_before now.found.items _ bs cs (free (expr_tree statement.value)) (free_of_statements later) _ (c.bind_statement.ensures.found ∙ c.in_ok-of_expr.ensures.found)
+          ap (λ l. c.of_expr.new.self.found.items ++ without l (free_of_statements later)) bound_is
+          ∙ found_before now.found.items _ bs cs (free (expr_tree statement.value)) (free_of_statements later) _ c.in_ok-of_expr.ensures.found
           (ap (λ left. now.found.items ++ without bs (free_of_statements left)) (sym rest) ∙ inv.found);
     }

@@ -9,14 +9,13 @@ use Rattle.kk_meaning.proofs.free.FreeVariables.of_rest.Goals as goal
 pub returns-clause-found : goal.returns-clause-found
 returns-clause-found c =
     let old = c.args.self.now in
-    let first = c.bind_awaited.new.self in
+    let first = c.bind_awaited.new.bound.items in
     let middle = c.of_statements.new.self in
     let ss = map statement_tree c.args.rest.statements.now in
     let last = free (expr_tree c.args.rest.value.now) in
-    let now : c.of_expr.new.self.found.items ≡ middle.found.items ++ without (first.bound.items ++ bound_by_statements ss) last =
+    let now : c.of_expr.new.self.found.items ≡ middle.found.items ++ without (first ++ bound_by_statements ss) last =
     c.in_ok-of_expr.ensures.found ∙ ap (λ (bs : List ℕ). middle.found.items ++ without bs last) c.in_ok-of_statements.ensures.bound in
     let whole = free_of_block ss (expr_tree c.args.rest.value.now) in
-    found_block first.found.items middle.found.items _ first.bound.items (free_of_statements ss) (bound_by_statements ss) last c.in_ok-of_statements.ensures.found now
-    ∙ (ap (λ (xs : List ℕ). first.found.items ++ without first.bound.items xs) (sym whole)
-    ∙ (ap (λ (l : List ℕ). l ++ without first.bound.items (free (block_tree c.args.rest))) c.bind_awaited.ensures.found
-    ∙ ap (λ (bs : List ℕ). old.found.items ++ without bs (free (block_tree c.args.rest))) c.in_ok-bind_awaited.ensures.bound))
+    found_block old.found.items middle.found.items _ first (free_of_statements ss) (bound_by_statements ss) last c.in_ok-of_statements.ensures.found now
+    ∙ (ap (λ (xs : List ℕ). old.found.items ++ without first xs) (sym whole)
+    ∙ ap (λ (bs : List ℕ). old.found.items ++ without bs (free (block_tree c.args.rest))) c.in_ok-bind_awaited.ensures)

@@ -26,8 +26,8 @@ returns-in_ok-values-in-None c =
     top ∙ (ap (λ f. f ∷ reverse (take (length machine.frames.items - 1) machine.frames.items)) c.in-Arguments.is ∙ ap (λ n. OfFrame.Arguments c.in-Arguments.form c.in-Arguments.values c.in-Arguments.left c.in-Arguments.environment ∷ reverse (take (n - 1) machine.frames.items)) count) in
     let newest : before ≡ arguments c.in-Arguments.form vs no_tree (environment_of links c.in-Arguments.environment) ∷ older =
     ap (map (frame_view links)) below ∙ ap (λ es. arguments c.in-Arguments.form vs (trees_of (map expr_tree es)) (environment_of links c.in-Arguments.environment) ∷ older) (no_items c.in-Arguments.left.now c.in-None.ensures.cases) in
-    let values : map value_view c.in_ok-values-in-None.values.items ≡ vs ++ value_view c.args.value ∷ [] =
-    ap (map value_view) (c.in_ok-values-in-None.ensures ∙ ap (λ all. all ++ c.args.value ∷ []) c.as_slice.ensures.value) ∙ map-append value_view c.in-Arguments.values.items (c.args.value ∷ []) in
+    let values : map value_view c.deref-in-None.result.now ≡ vs ++ value_view c.args.value ∷ [] =
+    ap (map value_view) (c.deref-in-None.ensures.value ∙ c.in_ok-values-in-None.ensures ∙ ap (λ all. all ++ c.args.value ∷ []) c.as_slice.ensures.value) ∙ map-append value_view c.in-Arguments.values.items (c.args.value ∷ []) in
     subst (λ (action : Action Configuration). Performs action machine c.finish.new.self c.finish.result)
-    (sym (form_with_last (setting_of machine) (value_view c.args.value) c.in-Arguments.form vs (map value_view c.in_ok-values-in-None.values.items) (environment_of links c.in-Arguments.environment) older older before (configuration_of machine) newest values refl))
+    (sym (form_with_last (setting_of machine) (value_view c.args.value) c.in-Arguments.form vs (map value_view c.deref-in-None.result.now) (environment_of links c.in-Arguments.environment) older older before (configuration_of machine) newest values refl))
     c.finish.ensures
