@@ -1,5 +1,5 @@
 -- How much longer code becomes by calls in line.
-use Rattle.std.specs.Prelude.{◌≡◌, ◌≤◌, ◌+◌, ◌⊎◌, ℕ, List, [], ◌∷◌, Option, Some, None, length, slice_get}
+use Rattle.std.specs.Prelude.{◌≡◌, ◌≤◌, ◌+◌, ◌⊎◌, ℕ, List, [], ◌∷◌, Some, length, slice_get}
 use Rattle.std.specs.List.{AllByRecursion}
 use Rattle.rv_isa.specs.declared.asm.Action.TheVariants.{Call}
 use Rattle.rv_isa.specs.AsmCode.{Line, Lines}
@@ -13,11 +13,6 @@ most_growth = 4096
 -- each line takes two values at most
 abbrev pub AreShort : List Line → Type 0
 AreShort lines = AllByRecursion (λ (line : Line). length line.args ≤ 2) lines
-
--- no value, or one
-abbrev pub values_in : Option ℕ → List ℕ
-values_in None = []
-values_in (Some value) = value ∷ []
 
 -- A line calls a leaf with this body and value, and the result goes to a value of the caller.
 pub record IsCallOf (functions : List Lines) (line : Line) (body : List Line) (value into : ℕ) : Type 0 where

@@ -6,7 +6,7 @@ ghost use Rattle.rv_isa.specs.Costs.{code_length, functions_length};
 ghost use Rattle.rv_isa.specs.ValueBounds.{AreValuesBelow, IsWrittenBelow, IsLineBelow, AreLinesBelow};
 ghost use Rattle.rv_isa.specs.WellFormed.{most_values};
 ghost use Rattle.rv_inline.specs.InLine.{named, named_line, in_line, most_fresh, AreInLine, IsInLine, HasInLine};
-ghost use Rattle.rv_inline.specs.Growth.{most_growth, values_in, IsCallOf, Becomes};
+ghost use Rattle.rv_inline.specs.Growth.{most_growth, IsCallOf, Becomes};
 
 use crate::counting::count_of_values;
 use crate::leaf::{Leaf, leaf_of};
@@ -23,39 +23,20 @@ const MOST_LINE: usize = 7;
 /// The most values of a function in which calls stand in line: a frame has room for those of a leaf too.
 const MOST_BASE: usize = 1014;
 
-fn copy_of(alloc: Global, values: &[u32]) -> Result<Vec<u32>, NoMemory>
-    ensures { IfOk result (λ copy. copy.items ≡ values.now) }
-{
-    match Vec::from_slice(alloc, values) {
-        Ok(copy) => Ok(copy),
-        Err(_) => Err(NoMemory),
-    }
-}
-
-fn copied(alloc: Global, statement: &Statement) -> Result<Statement, NoMemory>
-    ensures { IfOk result (λ copy. line_of copy ≡ line_of statement.now) }
-{
-    Ok(Statement {
-        action: statement.action,
-        args: copy_of(alloc, &statement.args)?,
-        into: statement.into,
-    })
-}
-
-/// A line that takes one value at most.
-fn line(
+/// Adds a line.
+fn push_line(
     alloc: Global,
+    code: &mut Vec<Statement>,
     action: Action,
-    arg: Option<u32>,
+    args: &[u32],
     into: Option<u32>,
-) -> Result<Statement, NoMemory>
-    ensures { IfOk result (λ new. line_of new ≡ record { action = action; args = values_in arg; into = into }) }
+) -> Result<(), NoMemory>
+    ensures { OnOk result (map line_of code.new.items
+        ≡ map line_of code.old.items ++ (record { action = action; args = args.now; into = into } ∷ [])) }
 {
-    let mut args = Vec::new(alloc);
-    if let Some(value) = arg {
-        args.push(value)?;
-    }
-    Ok(Statement { action, args, into })
+    let args = Vec::from_slice(alloc, args)?;
+    code.push(Statement { action, args, into })?;
+    Ok(())
 }
 
 /// The value of the caller that stands for a value of a leaf.
@@ -146,16 +127,15 @@ fn add_in_line(
     ensures { OnOk result (map line_of code.new.items
         ≡ map line_of code.old.items ++ in_line base args.now (map line_of leaf.now.body.now) leaf.now.value into []) }
 {
-    code.push(line(alloc, Action::Room, None, None)?)?;
+    push_line(alloc, code, Action::Room, &[], None)?;
     add_named(alloc, code, base, args, leaf.body)?;
     let value = named(base, args, leaf.value);
     let copy = Action::Compute(Operation::Mv);
-    code.push(line(alloc, copy, Some(value), Some(into))?)?;
-    Ok(())
+    push_line(alloc, code, copy, &[value], Some(into))
 }
 
 /// A leaf that is called, and where its result goes.
-#[derive(Drop)]
+#[derive(Clone, Copy, Drop)]
 struct Called<'a> {
     leaf: Leaf<'a>,
     into: u32,
@@ -207,7 +187,13 @@ fn add_line(
             }
         }
     }
-    code.push(copied(alloc, statement)?)?;
+    push_line(
+        alloc,
+        code,
+        statement.action,
+        &statement.args,
+        statement.into,
+    )?;
     Ok(growth)
 }
 
@@ -261,7 +247,7 @@ fn function_in_line(
         ≤ functions_length (lines_of function.now ∷ []) + growth) }
 {
     let base = count_of_values(function);
-    let params = copy_of(alloc, &function.params)?;
+    let params = Vec::from_slice(alloc, &function.params)?;
     let code = code_in_line(alloc, functions, base, growth, &function.code)?;
     let function = AsmFunction {
         params,

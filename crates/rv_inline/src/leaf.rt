@@ -1,6 +1,6 @@
 // Leaves: functions that compute a value from their parameters alone, one line after the other.
 
-ghost use Rattle.std.specs.Prelude.{◌≡◌, ◌≤◌, ◌++◌, [], ◌∷◌, IsTrue, IfSome, length, map};
+ghost use Rattle.std.specs.Prelude.{◌≡◌, ◌≤◌, IsTrue, IfSome, length, map};
 ghost use Rattle.rv_isa.specs.AsmCode.{line_of, lines_of};
 ghost use Rattle.rv_isa.specs.ValueBounds.{AreValuesBelow, IsWrittenBelow, IsLineBelow, AreLinesBelow};
 ghost use Rattle.rv_inline.specs.InLine.{is_pure, computes, IsWrittenFrom, AreComputing, AreFrom, gives_back, IsLeaf};
@@ -15,7 +15,7 @@ const MOST_FRESH: usize = 7;
 const MOST_LINES: usize = 32;
 
 /// A leaf: the lines that compute, and the value that it gives back.
-#[derive(Drop)]
+#[derive(Clone, Copy, Drop)]
 pub struct Leaf<'a> {
     pub body: &'a [Statement],
     pub value: u32,
@@ -142,17 +142,6 @@ fn given(statement: &Statement) -> Option<u32>
     }
 }
 
-/// The code before its last line, and that line.
-fn split(code: &[Statement]) -> Option<(&[Statement], &Statement)>
-    ensures { IfSome result (λ parts. code.now ≡ parts.0.now ++ (parts.1.now ∷ [])) }
-{
-    if code.is_empty() {
-        return None;
-    }
-    let last = code.len() - 1;
-    Some((&code[..last], &code[last]))
-}
-
 /// A function as a leaf, if it is one.
 pub fn leaf_of(function: &AsmFunction) -> Option<Leaf<'_>>
     ensures leaf { IfSome result (λ leaf. IsLeaf (lines_of function.now) (map line_of leaf.body.now) leaf.value) }
@@ -162,7 +151,7 @@ pub fn leaf_of(function: &AsmFunction) -> Option<Leaf<'_>>
     if function.code.len() > MOST_LINES {
         return None;
     }
-    let (body, last) = split(&function.code)?;
+    let (last, body) = function.code.split_last()?;
     let value = given(last)?;
     let most = function.params.len() + MOST_FRESH;
     if are_first(&function.params)

@@ -18,6 +18,7 @@ pub mod Registers
 pub mod Runs
 pub mod RangeEquality
 pub mod Standing
+pub mod SameWords
 pub mod Steps
 pub mod Calls
 pub mod HeldTokens

@@ -18,6 +18,13 @@ pub fn encode(i: Instr) -> u32
     ensures only { (w : ℕ) → w < 2 ^ 32 → IsWord i w → i ≢ Instr.Fence → result ≡ w }
     ensures fence { i ≡ Instr.Fence → result ≡ 0x0ff0_000f }
 {
+    word_of(i)
+}
+
+fn word_of(i: Instr) -> u32
+    ensures word { IsWord i result }
+    ensures fence { i ≡ Instr.Fence → result ≡ 0x0ff0_000f }
+{
     match i {
         Instr::Lui { rd, imm } => u_word(LUI, rd, imm),
         Instr::Auipc { rd, imm } => u_word(AUIPC, rd, imm),

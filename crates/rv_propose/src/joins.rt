@@ -2,11 +2,11 @@
 
 ghost use Rattle.std.specs.Prelude.{◌<◌, length, IfSome};
 
-use crate::liveness::{Point, alive_at, is_one_of};
-use crate::plans::{Care, Copied, Due, Plans};
+use crate::liveness::{Point, is_one_of};
+use crate::plans::{Care, Copied, Plans};
 use crate::state::{
-    any_register, is_copied_in, is_in_slot, is_to_be_had, listing, register_of, same_state,
-    stands_in, state_at, unused_register, used_registers, without_copy_in,
+    any_register, free_register, is_copied_in, is_in_slot, is_to_be_had, list_as, listing,
+    lose_copies_in, register_of, same_state, stands_in, state_at,
 };
 use kk_base::NoMemory;
 use rv_isa::{Action, Item, Listed, Place, Register, Way};
@@ -26,7 +26,12 @@ const MOST_MOVES: u32 = 64;
 fn index_of(kept: &[KeptState], label: u32) -> Option<usize>
     ensures { IfSome result (λ at. at < length kept.now) }
 {
-    kept.iter().position(|other| other.label == label)
+    for (index, other) in kept.iter().enumerate() {
+        if other.label == label {
+            return Some(index);
+        }
+    }
+    None
 }
 
 // The register that is the value's place at the label, if a move has to bring the value there.
@@ -93,8 +98,7 @@ fn store_for(
 pub fn make_way(alloc: Global, walk: &mut Walk, listed: Listed) -> Result<(), NoMemory> {
     match listed.copy {
         Some(register) => {
-            let after = placed_in(listed, register);
-            walk.state = state_listing(alloc, &walk.state, after)?;
+            list_as(&mut walk.state, placed_in(listed, register));
             Ok(())
         }
         None => {
@@ -146,16 +150,13 @@ fn on_both_ways(goal: Listed, listed: Listed) -> Listed {
     }
 }
 
-// Where values stand on both ways.
-fn joined(alloc: Global, goals: &[Listed], state: &[Listed]) -> Result<Vec<Listed>, NoMemory> {
-    let mut next = Vec::with_capacity(alloc, goals.len())?;
-    for goal in goals {
-        match listing(state, goal.value) {
-            Some(listed) => next.push(on_both_ways(*goal, listed))?,
-            None => next.push(*goal)?,
+// Values stand where they stand on both ways.
+fn join_states(goals: &mut [Listed], state: &[Listed]) {
+    for goal in goals.iter_mut() {
+        if let Some(listed) = listing(state, goal.value) {
+            *goal = on_both_ways(*goal, listed);
         }
     }
-    Ok(next)
 }
 
 // Where the first way to a label finds the values that are alive there. Those that go early are in their slots there.
@@ -168,17 +169,17 @@ fn found_first(
 ) -> Result<Vec<Listed>, NoMemory> {
     let is_lone = is_one_of(label, &plans.lone);
     let mut goals = Vec::new(alloc);
-    for value in alive_at(&plans.alive, label) {
+    for value in plans.alive_at(label) {
         if let Some(listed) = listing(state, *value) {
-            let is_apart = listed.copy.is_some_and(Register::is_of_constant);
-            if !is_lone && (is_apart || care.is_early(*value)) {
-                goals.push(Listed {
-                    copy: None,
-                    ..listed
-                })?;
-            } else {
-                goals.push(listed)?;
-            }
+            let is_apart = match listed.copy {
+                Some(register) => register.is_of_constant(),
+                None => false,
+            };
+            let is_alone = !is_lone && (is_apart || care.is_early(*value));
+            goals.push(Listed {
+                copy: if is_alone { None } else { listed.copy },
+                ..listed
+            })?;
         }
     }
     Ok(goals)
@@ -206,9 +207,7 @@ fn store_early(
 ) -> Result<(), NoMemory> {
     for value in values {
         if care.is_early(*value) {
-            if let Some(listed) = listing(&walk.state, *value) {
-                put_store(alloc, walk, listed)?;
-            }
+            put_store_of(alloc, walk, *value)?;
         }
     }
     Ok(())
@@ -229,7 +228,7 @@ pub fn go_to(
     } else if is_one_of(label, &plans.lone) {
         Ok(())
     } else {
-        let values = alive_at(&plans.alive, label);
+        let values = plans.alive_at(label);
         store_early(alloc, walk, values, care)?;
         leave_constants(alloc, walk, values)
     }
@@ -286,8 +285,7 @@ pub fn join(
     care: &Care,
 ) -> Result<(), NoMemory> {
     if let Some(at) = index_of(&walk.kept, label) {
-        let state = joined(alloc, &walk.kept[at].state, &walk.state)?;
-        walk.kept[at].state = state;
+        join_states(&mut walk.kept[at].state, &walk.state);
     } else {
         let state = found_first(alloc, &walk.state, label, plans, care)?;
         walk.kept.push(KeptState {
@@ -313,10 +311,10 @@ pub fn take_state(
     point: &Point,
 ) -> Result<Vec<Listed>, NoMemory> {
     let Some(at) = index_of(kept, label) else {
-        return state_at(alloc, &[], point);
+        return state_at(alloc, &[], point, None);
     };
     let here = kept.swap_remove(at);
-    state_at(alloc, &here.state, point)
+    state_at(alloc, &here.state, point, None)
 }
 
 /// Where values stand at a label, by the ways to it so far.
@@ -349,48 +347,9 @@ pub struct Walk {
     pub moved: Vec<u32>,
     /// How many of these moves are too many.
     pub excess: usize,
-    /// The values that would have to be where they are needed earlier.
-    pub due: Vec<Due>,
-    /// The values that would have to be so as soon as they are there.
-    pub early: Vec<u32>,
-    /// The values that were in registers where one more was wanted.
-    pub crowded: Vec<u32>,
-}
-
-// The listings behind a move to `to`, after which its value is listed as `after`.
-fn state_moved(
-    alloc: Global,
-    state: &[Listed],
-    way: Way,
-    after: Listed,
-) -> Result<Vec<Listed>, NoMemory> {
-    let mut next = Vec::with_capacity(alloc, state.len())?;
-    for listed in state {
-        if listed.value == after.value {
-            next.push(after)?;
-        } else {
-            match way {
-                Way::Copy { to, .. } | Way::Load { to, .. } => {
-                    next.push(without_copy_in(*listed, to))?;
-                }
-                Way::Store { .. } => next.push(*listed)?,
-            }
-        }
-    }
-    Ok(next)
-}
-
-// The listings, where a value is listed as `after`.
-fn state_listing(alloc: Global, state: &[Listed], after: Listed) -> Result<Vec<Listed>, NoMemory> {
-    let mut next = Vec::with_capacity(alloc, state.len())?;
-    for listed in state {
-        next.push(if listed.value == after.value {
-            after
-        } else {
-            *listed
-        })?;
-    }
-    Ok(next)
+    /// The values that would have to be treated with more care: those that have to be where they are needed earlier, and those that were
+    /// in registers where one more was wanted.
+    pub more: Care,
 }
 
 // Writes a move, behind which its value is listed as `after`.
@@ -402,10 +361,12 @@ fn put_move(alloc: Global, walk: &mut Walk, way: Way, after: Listed) -> Result<(
     } else {
         walk.left -= 1;
     }
-    let next = state_moved(alloc, &walk.state, way, after)?;
     let alive = same_state(alloc, &walk.state)?;
     walk.items.push(Item::Moves { alive, value, way })?;
-    walk.state = next;
+    if let Way::Copy { to, .. } | Way::Load { to, .. } = way {
+        lose_copies_in(&mut walk.state, to);
+    }
+    list_as(&mut walk.state, after);
     Ok(())
 }
 
@@ -470,6 +431,14 @@ pub fn put_store(alloc: Global, walk: &mut Walk, listed: Listed) -> Result<(), N
     }
 }
 
+/// Writes the store of a value, if it is listed and a register is its place.
+pub fn put_store_of(alloc: Global, walk: &mut Walk, value: u32) -> Result<(), NoMemory> {
+    match listing(&walk.state, value) {
+        Some(listed) => put_store(alloc, walk, listed),
+        None => Ok(()),
+    }
+}
+
 // The value in a register that is alive longest, but for these. It is listed first.
 fn longest_alive(state: &[Listed], keep: &[u32]) -> Option<u32> {
     for listed in state {
@@ -492,22 +461,17 @@ fn awaited(walk: &Walk) -> &[Listed] {
     &[]
 }
 
-// A free register that no value is to be in there.
-fn quiet_register(walk: &Walk) -> Option<Register> {
-    unused_register(&used_registers(&walk.state), &used_registers(awaited(walk)))
-}
-
-/// A register for a value, which has at most copies, and none of these values. Where there is none, it is any, and the walk tells
-/// which value stood in the way.
+/// A register for a value: a free one that no value is to be in at the next label ahead, or else one that has at most copies, and none
+/// of these values. Where there is none, it is any, and the walk tells which value stood in the way.
 pub fn spare_register(walk: &mut Walk, keep: &[u32]) -> Result<Register, NoMemory> {
-    if let Some(register) = quiet_register(walk) {
+    if let Some(register) = free_register(&walk.state, awaited(walk)) {
         return Ok(register);
     }
     match any_register(&walk.state, keep) {
         Some(register) => Ok(register),
         None => {
             if let Some(value) = longest_alive(&walk.state, keep) {
-                walk.crowded.push(value)?;
+                walk.more.slotted.push(value)?;
             }
             Ok(Register::T0)
         }

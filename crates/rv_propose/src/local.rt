@@ -2,16 +2,16 @@
 
 use crate::joins::{
     Walk, go_to, index_from, join, kept_register, make_way, put_away, put_copy, put_store,
-    spare_register, take_state, twin_register,
+    put_store_of, spare_register, take_state, twin_register,
 };
 use crate::liveness::{copy_of, is_one_of};
 use crate::plans::{
     Care, Due, Plan, Plans, goes_on, may_spoil, named_label, plans_of, spoils_many, spoils_some,
 };
 use crate::state::{
-    argument_register, is_copied_in, is_free, is_in, is_to_be_had, is_wished_for, listing,
-    operands_at, register_of, same_state, standing_in, stands_in, state_at, state_behind,
-    state_clear_of, state_without, wished_register,
+    argument_register, is_free, is_in, is_to_be_had, is_wished_for, leave_spoilt_registers,
+    listing, lose_copies_in, operands_at, register_of, same_state, standing_in, stands_in,
+    state_at, wished_register,
 };
 use kk_base::NoMemory;
 use rv_isa::{
@@ -19,6 +19,7 @@ use rv_isa::{
     Routine, Statement,
 };
 use std::alloc::Global;
+use std::mem;
 
 /// How often a function is written anew with more care.
 const MOST_ROUNDS: u32 = 8;
@@ -46,9 +47,9 @@ fn settle(
     let value = listed.value;
     let is_spoilt = is_soon_spoilt(Place::Register(register));
     let is_early = care.is_early(value);
-    if is_one_of(value, &care.slotted) || is_early && is_one_of(value, &plan.slotted) {
+    if is_one_of(value, &care.slotted) || is_early && is_one_of(value, &plan.needs.slotted) {
         put_store(alloc, walk, listed)
-    } else if is_spoilt && is_early && is_one_of(value, &plan.crossing) {
+    } else if is_spoilt && is_early && is_one_of(value, &plan.needs.crossing) {
         let to = spare_register(walk, &[])?;
         put_away(alloc, walk, listed, to)
     } else {
@@ -69,7 +70,7 @@ fn register_for(
         return Ok(register);
     }
     if let Some(register) = idle
-        && is_one_of(value, &plan.slotted)
+        && is_one_of(value, &plan.needs.slotted)
     {
         return Ok(register);
     }
@@ -92,7 +93,7 @@ fn idle_register(
     plan: &Plan,
 ) -> Option<Register> {
     if let Some(register) = Action::Compute(operation).home() {
-        let is_open = is_to_be_had(state, &[], register) && !is_one_of(value, &plan.joining);
+        let is_open = is_to_be_had(state, &[], register) && !is_one_of(value, &plan.needs.joining);
         return is_open.then_some(register);
     }
     if let (Operation::Mv, Some(arg)) = (operation, args.first()) {
@@ -146,10 +147,8 @@ fn store_copied(
 ) -> Result<(), NoMemory> {
     if let Action::Compute(Operation::Mv) = statement.action {
         for value in &statement.args {
-            if let Some(listed) = listing(&walk.state, *value) {
-                if walk.left > 0 && is_one_of(*value, &behind.stored) {
-                    put_store(alloc, walk, listed)?;
-                }
+            if walk.left > 0 && is_one_of(*value, &behind.needs.stored) {
+                put_store_of(alloc, walk, *value)?;
             }
         }
     }
@@ -158,11 +157,15 @@ fn store_copied(
 
 // How many of the arguments are in no register.
 fn loads_for(state: &[Listed], args: &[u32]) -> usize {
-    args.iter()
-        .filter(|value| {
-            listing(state, **value).is_some_and(|listed| register_of(listed).is_none())
-        })
-        .count()
+    let mut loads: usize = 0;
+    for value in args {
+        if let Some(listed) = listing(state, *value) {
+            if register_of(listed).is_none() {
+                loads = loads.saturating_add(1);
+            }
+        }
+    }
+    loads
 }
 
 // A value that is alive behind a computation leaves a register.
@@ -173,7 +176,7 @@ fn leave_wished(
     args: &[u32],
     behind: &Plan,
 ) -> Result<(), NoMemory> {
-    if is_one_of(listed.value, &behind.stored) {
+    if is_one_of(listed.value, &behind.needs.stored) {
         put_store(alloc, walk, listed)
     } else if !is_one_of(listed.value, &behind.point.alive) {
         Ok(())
@@ -275,9 +278,7 @@ fn arrange(alloc: Global, walk: &mut Walk, args: &[u32]) -> Result<(), NoMemory>
 // What is alive behind an action goes to its slot.
 fn store_all(alloc: Global, walk: &mut Walk, values: &[u32]) -> Result<(), NoMemory> {
     for value in values {
-        if let Some(listed) = listing(&walk.state, *value) {
-            put_store(alloc, walk, listed)?;
-        }
+        put_store_of(alloc, walk, *value)?;
     }
     Ok(())
 }
@@ -361,7 +362,7 @@ fn leave_spoilt(
         if let Some(listed) = listing(&walk.state, *value) {
             if let Place::Register(register) = listed.place {
                 if may_spoil(statement.action, register.number) {
-                    leave_place(alloc, walk, listed, statement, &behind.stored)?;
+                    leave_place(alloc, walk, listed, statement, &behind.needs.stored)?;
                 }
             }
         }
@@ -410,13 +411,7 @@ fn put_result(
     behind: &Plan,
     care: &Care,
 ) -> Result<(), NoMemory> {
-    if walk
-        .state
-        .iter()
-        .any(|listed| is_copied_in(*listed, register))
-    {
-        walk.state = state_clear_of(alloc, &walk.state, register)?;
-    }
+    lose_copies_in(&mut walk.state, register);
     if is_one_of(into.value, &behind.point.alive) {
         let listed = Listed {
             value: into.value,
@@ -460,16 +455,11 @@ fn pass(
     behind: &Plan,
 ) -> Result<(), NoMemory> {
     if spoils_some(statement.action) {
-        walk.state = state_behind(alloc, &walk.state, statement.action)?;
+        leave_spoilt_registers(&mut walk.state, statement.action);
     }
-    walk.state = state_at(alloc, &walk.state, &behind.point)?;
-    if let Some(value) = statement.into {
-        if listing(&walk.state, value).is_some() {
-            walk.state = state_without(alloc, &walk.state, value)?;
-        }
-    }
+    walk.state = state_at(alloc, &walk.state, &behind.point, statement.into)?;
     walk.left = moves_behind(statement);
-    walk.moved = Vec::new(alloc);
+    walk.moved.clear();
     walk.excess = 0;
     Ok(())
 }
@@ -570,7 +560,7 @@ fn put_due(
                 && !care.is_due(index, *value);
             if is_open && walk.excess > 0 {
                 let value = *value;
-                walk.due.push(Due { index, value })?;
+                walk.more.due.push(Due { index, value })?;
                 walk.excess -= 1;
             }
         }
@@ -584,30 +574,37 @@ fn blame(alloc: Global, walk: &mut Walk, args: &[u32], care: &Care) -> Result<()
     if walk.excess == 0 {
         return Ok(());
     }
-    let moved = copy_of(alloc, &walk.moved)?;
+    let moved = mem::replace(&mut walk.moved, Vec::new(alloc));
     if let Some(index) = walk.last {
         put_due(walk, index, &moved, args, care)?;
     }
     if walk.excess > 0 {
-        walk.early.extend_from_slice(&moved)?;
+        walk.more.early.extend_from_slice(&moved)?;
     }
     Ok(())
 }
 
-// Moves the values that have to move before the next statement: to a slot, if a value has to come to its slot in any case; else to a
-// register that keeps it; else a register that is not spoilt soon gets a copy of it.
+// Moves a value early: to its slot, if it has to come there in any case; else to a register that keeps it; else a register that is not
+// spoilt soon gets a copy of it.
+fn move_early(alloc: Global, walk: &mut Walk, listed: Listed, plan: &Plan) -> Result<(), NoMemory> {
+    if is_one_of(listed.value, &plan.needs.slotted) {
+        put_store(alloc, walk, listed)
+    } else if let Some(to) = kept_register(walk, &[], &plan.ahead, listed.value) {
+        put_away(alloc, walk, listed, to)
+    } else if is_soon_spoilt(listed.place) && listed.copy.is_none() {
+        let to = spare_register(walk, &[])?;
+        put_copy(alloc, walk, listed, to)
+    } else {
+        Ok(())
+    }
+}
+
+// Moves the values that have to move before the next statement.
 fn pay(alloc: Global, walk: &mut Walk, plan: &Plan, care: &Care) -> Result<(), NoMemory> {
     for due in &care.due {
         if due.index == walk.index {
             if let Some(listed) = listing(&walk.state, due.value) {
-                if is_one_of(due.value, &plan.slotted) {
-                    put_store(alloc, walk, listed)?;
-                } else if let Some(to) = kept_register(walk, &[], &plan.ahead, due.value) {
-                    put_away(alloc, walk, listed, to)?;
-                } else if is_soon_spoilt(listed.place) && listed.copy.is_none() {
-                    let to = spare_register(walk, &[])?;
-                    put_copy(alloc, walk, listed, to)?;
-                }
+                move_early(alloc, walk, listed, plan)?;
             }
         }
     }
@@ -652,7 +649,7 @@ fn step(
     }
     if !matches!(statement.action, Action::Label(_) | Action::Jump(_)) {
         prepare(alloc, walk, statement, before, behind)?;
-        store_some(alloc, walk, &before.stored, behind)?;
+        store_some(alloc, walk, &before.needs.stored, behind)?;
     }
     if let Some(label) = ahead {
         join(alloc, walk, label, plans, care)?;
@@ -667,7 +664,7 @@ fn step(
     walk.index = walk.index.saturating_add(1);
     walk.is_reached = goes_on(statement.action);
     if !walk.is_reached {
-        walk.state = state_at(alloc, &[], &behind.point)?;
+        walk.state = state_at(alloc, &[], &behind.point, None)?;
     }
     Ok(())
 }
@@ -703,9 +700,7 @@ fn start(alloc: Global, params: &[u32], plan: &Plan, care: &Care) -> Result<Walk
         index: 0,
         last: Some(0),
         excess: 0,
-        due: Vec::new(alloc),
-        early: Vec::new(alloc),
-        crowded: Vec::new(alloc),
+        more: Care::none(alloc, false),
     };
     for (index, value) in params.iter().enumerate() {
         if let (Some(register), Some(listed)) = (
@@ -718,13 +713,11 @@ fn start(alloc: Global, params: &[u32], plan: &Plan, care: &Care) -> Result<Walk
     Ok(walk)
 }
 
-// The walk through a function; or `None` where the plans are none of it.
-fn walked(
-    alloc: Global,
-    function: &AsmFunction,
-    plans: &Plans,
-    care: &Care,
-) -> Result<Option<Walk>, NoMemory> {
+// The walk through a function; or `None` where its plans would be too much work.
+fn walked(alloc: Global, function: &AsmFunction, care: &Care) -> Result<Option<Walk>, NoMemory> {
+    let Some(plans) = plans_of(alloc, &function.code, care)? else {
+        return Ok(None);
+    };
     let mut points = plans.points.iter().rev();
     let Some(mut before) = points.next() else {
         return Ok(None);
@@ -734,7 +727,7 @@ fn walked(
         let Some(behind) = points.next() else {
             return Ok(None);
         };
-        step(alloc, &mut walk, statement, before, behind, plans, care)?;
+        step(alloc, &mut walk, statement, before, behind, &plans, care)?;
         before = behind;
     }
     Ok(Some(walk))
@@ -752,6 +745,14 @@ fn add_new(values: &mut Vec<u32>, more: &[u32]) -> Result<bool, NoMemory> {
     Ok(is_more)
 }
 
+// Takes more care, and tells whether there is something new to care for.
+fn take_care(care: &mut Care, more: &Care) -> Result<bool, NoMemory> {
+    let has_more_early = add_new(&mut care.early, &more.early)?;
+    let has_more_slotted = add_new(&mut care.slotted, &more.slotted)?;
+    care.due.extend_from_slice(&more.due)?;
+    Ok(has_more_early | has_more_slotted | !more.due.is_empty())
+}
+
 /// The function with its values in registers as long as they can be; or `None` where that would be too much work. Where it goes
 /// early, each value goes to its slot as soon as it is there, if it has to be there at some point. Whether it is right, only a
 /// check tells.
@@ -761,35 +762,16 @@ pub fn local_function(
     is_early: bool,
 ) -> Result<Option<PlacedFunction>, NoMemory> {
     let mut care = Care::none(alloc, is_early);
-    let Some(mut plans) = plans_of(alloc, &function.code, &care)? else {
-        return Ok(None);
-    };
     for _ in 0..MOST_ROUNDS {
-        let Some(walk) = walked(alloc, function, &plans, &care)? else {
+        let Some(walk) = walked(alloc, function, &care)? else {
             return Ok(None);
         };
-        let Walk {
-            items,
-            due,
-            early,
-            crowded,
-            ..
-        } = walk;
-        let has_more_early = add_new(&mut care.early, &early)?;
-        let has_more_slotted = add_new(&mut care.slotted, &crowded)?;
-        care.due.extend_from_slice(&due)?;
-        if due.is_empty() && !has_more_early && !has_more_slotted {
+        if !take_care(&mut care, &walk.more)? {
             let params = copy_of(alloc, &function.params)?;
             return Ok(Some(PlacedFunction {
                 params,
-                code: items,
+                code: walk.items,
             }));
-        }
-        if has_more_early {
-            match plans_of(alloc, &function.code, &care)? {
-                Some(others) => plans = others,
-                None => return Ok(None),
-            }
         }
     }
     Ok(None)

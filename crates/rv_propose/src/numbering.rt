@@ -80,6 +80,13 @@ impl Numbers {
         }
     }
 
+    fn result(&self, into: Option<Operand>) -> Option<Operand> {
+        match into {
+            Some(operand) => Some(self.operand(operand)),
+            None => None,
+        }
+    }
+
     fn operands(&self, alloc: Global, args: &[Operand]) -> Result<Vec<Operand>, NoMemory> {
         let mut next = Vec::with_capacity(alloc, args.len())?;
         for arg in args {
@@ -97,7 +104,7 @@ impl Numbers {
                 alive,
             } => Ok(Item::Does {
                 action: *action,
-                into: into.map(|operand| self.operand(operand)),
+                into: self.result(*into),
                 args: self.operands(alloc, args)?,
                 alive: self.listings(alloc, alive)?,
             }),
@@ -132,9 +139,13 @@ fn held_slot(item: &Item) -> Option<u32> {
 
 // How many lines hold the token of a slot.
 fn holds_of(slot: u32, code: &[Item]) -> usize {
-    code.iter()
-        .filter(|item| held_slot(item) == Some(slot))
-        .count()
+    let mut holds: usize = 0;
+    for item in code {
+        if held_slot(item) == Some(slot) {
+            holds = holds.saturating_add(1);
+        }
+    }
+    holds
 }
 
 // The slot whose token is held in most lines, where one is.

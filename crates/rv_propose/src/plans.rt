@@ -3,15 +3,11 @@
 ghost use Rattle.std.specs.Prelude.{◌≡◌};
 ghost use Rattle.rv_isa.specs.Conventions.{spoils};
 
-use crate::liveness::{
-    LabelPoint, Point, alive_at, alive_before, alive_behind, copy_of, held_before, is_one_of,
-    is_result,
-};
+use crate::liveness::{Point, alive_before, copy_of, held_before, is_one_of, is_result};
 use crate::state::argument_register;
 use kk_base::NoMemory;
 use rv_isa::{Action, Operation, Register, Routine, Statement};
 use std::alloc::Global;
-use std::mem;
 
 /// The most work that code with registers is worth: its lines times the square of the most values that are alive at a point.
 const MOST_WORK: usize = 50_000_000;
@@ -28,13 +24,6 @@ pub struct Wish {
     pub value: u32,
     pub register: Register,
     pub worth: u32,
-}
-
-/// The wishes at a label.
-#[derive(Drop)]
-struct LabelWishes {
-    label: u32,
-    wishes: Vec<Wish>,
 }
 
 /// A copy of a value: the one that it takes, and the one that it gives.
@@ -63,10 +52,9 @@ pub struct Care {
     pub slotted: Vec<u32>,
 }
 
-/// What is needed at a point.
+/// What the code needs of values on the ways on from a point.
 #[derive(Drop)]
-pub struct Plan {
-    pub point: Point,
+pub struct Needs {
     /// The values that have to be in their slots on some way on from here.
     pub slotted: Vec<u32>,
     /// The values that have to be in their slots on each way on from here.
@@ -78,6 +66,13 @@ pub struct Plan {
     /// The values that lines other than copies compute with or branch by on some way on from here, before any call and any routine but
     /// take.
     pub read: Vec<u32>,
+}
+
+/// What is needed at a point.
+#[derive(Drop)]
+pub struct Plan {
+    pub point: Point,
+    pub needs: Needs,
     pub wishes: Vec<Wish>,
     /// The next labels on the way on from here.
     pub ahead: Vec<u32>,
@@ -85,31 +80,50 @@ pub struct Plan {
     pub copies: Vec<Copied>,
 }
 
-/// What is needed at the points of a function.
+/// A label, and the index of the point before it.
+#[derive(Clone, Copy)]
+struct LabelIndex {
+    label: u32,
+    index: usize,
+}
+
+/// What is needed at the points of a function. It is made from the end of the code back.
 #[derive(Drop)]
 pub struct Plans {
     /// Before each statement and at the end, the first one last.
     pub points: Vec<Plan>,
-    /// What is alive at each label.
-    pub alive: Vec<LabelPoint>,
+    /// The labels so far.
+    labels: Vec<LabelIndex>,
     /// The labels to which one way alone leads.
     pub lone: Vec<u32>,
 }
 
-/// A walk through the code from its end back: what is needed at each point so far, the last one first, and what is needed at each
-/// label that it has passed.
-#[derive(Drop)]
-struct Walk {
-    passed: Vec<Plan>,
-    at: Plan,
-    wishes: Vec<LabelWishes>,
-    ahead: Vec<LabelPoint>,
-    alive: Vec<LabelPoint>,
-    slotted: Vec<LabelPoint>,
-    stored: Vec<LabelPoint>,
-    crossing: Vec<LabelPoint>,
-    joining: Vec<LabelPoint>,
-    read: Vec<LabelPoint>,
+impl Plans {
+    // What is needed at a label. Where the label is not known, nothing is, as at the end of the code.
+    fn at_label(&self, label: u32) -> Option<&Plan> {
+        for known in &self.labels {
+            if known.label == label {
+                return self.points.get(known.index);
+            }
+        }
+        self.points.first()
+    }
+
+    /// What is alive at a label.
+    pub fn alive_at(&self, label: u32) -> &[u32] {
+        match self.at_label(label) {
+            Some(plan) => &plan.point.alive,
+            None => &[],
+        }
+    }
+
+    // What is needed at the label that an action names, or nothing.
+    fn named_by(&self, action: Action) -> Option<&Plan> {
+        match named_label(action) {
+            Some(label) => self.at_label(label),
+            None => self.points.first(),
+        }
+    }
 }
 
 impl Care {
@@ -125,9 +139,12 @@ impl Care {
 
     /// Whether the value is due before the statement of this index.
     pub fn is_due(&self, index: usize, value: u32) -> bool {
-        self.due
-            .iter()
-            .any(|due| due.index == index && due.value == value)
+        for due in &self.due {
+            if due.index == index && due.value == value {
+                return true;
+            }
+        }
+        false
     }
 
     /// Whether the value goes to where it is needed as soon as it is there.
@@ -169,6 +186,14 @@ pub fn spoils_many(action: Action) -> bool {
     )
 }
 
+// Whether an action takes its arguments in their registers.
+fn takes_in_registers(action: Action) -> bool {
+    matches!(
+        action,
+        Action::Call(_) | Action::TailCall(_) | Action::Return | Action::Routine(_)
+    )
+}
+
 // Whether an argument of a statement is alive behind it too, and not its result.
 fn is_read_on(statement: &Statement, value: u32, behind: &[u32]) -> bool {
     is_one_of(value, behind) && !is_result(statement.into, value)
@@ -182,23 +207,29 @@ pub fn named_label(action: Action) -> Option<u32> {
     }
 }
 
+// How often a label is named.
+fn count_of(named: &[u32], label: u32) -> usize {
+    let mut count: usize = 0;
+    for other in named {
+        if *other == label {
+            count = count.saturating_add(1);
+        }
+    }
+    count
+}
+
 // The labels to which one way alone leads: that of a jump or branch, or that of the line before.
 fn lone_labels(alloc: Global, code: &[Statement]) -> Result<Vec<u32>, NoMemory> {
-    let mut once = Vec::new(alloc);
-    let mut again = Vec::new(alloc);
+    let mut named = Vec::new(alloc);
     let mut lone = Vec::new(alloc);
     let mut is_reached = true;
     for statement in code {
         if let Some(label) = named_label(statement.action) {
-            if is_one_of(label, &once) {
-                again.push(label)?;
-            } else {
-                once.push(label)?;
-            }
+            named.push(label)?;
         }
         if let Action::Label(label) = statement.action {
-            let is_named = is_one_of(label, &once);
-            if is_named != is_reached && !is_one_of(label, &again) {
+            let most = if is_reached { 0 } else { 1 };
+            if count_of(&named, label) == most {
                 lone.push(label)?;
             }
         }
@@ -209,30 +240,40 @@ fn lone_labels(alloc: Global, code: &[Statement]) -> Result<Vec<u32>, NoMemory> 
 
 // Those of the values that go early.
 fn early_of(alloc: Global, values: &[u32], care: &Care) -> Result<Vec<u32>, NoMemory> {
-    Ok(
-        values
-            .iter()
-            .copied()
-            .filter(|value| care.is_early(*value))
-            .collect(alloc)?,
-    )
+    let mut early = Vec::new(alloc);
+    for value in values {
+        if care.is_early(*value) {
+            early.push(*value)?;
+        }
+    }
+    Ok(early)
 }
 
-// The values before a statement, by those behind it, among which none stands twice, and those that it adds: as `alive_before`, in the
-// memory of the list of those behind.
-fn put_before(behind: Vec<u32>, here: &[u32], into: Option<u32>) -> Result<Vec<u32>, NoMemory> {
-    let mut values = behind;
-    if let Some(into) = into {
-        if let Some(index) = values.iter().position(|value| *value == into) {
-            values.remove(index);
-        }
+// The values of a list behind an action, by those at the next statement and those at the label that it names.
+fn list_behind(
+    alloc: Global,
+    action: Action,
+    next: &[u32],
+    named: &[u32],
+) -> Result<Vec<u32>, NoMemory> {
+    match action {
+        Action::Jump(_) => copy_of(alloc, named),
+        Action::Branch(..) => alive_before(alloc, next, None, named),
+        Action::TailCall(_) | Action::Return => Ok(Vec::new(alloc)),
+        _ => copy_of(alloc, next),
     }
-    for value in here {
-        if !is_one_of(*value, &values) {
-            values.push(*value)?;
-        }
-    }
-    Ok(values)
+}
+
+// The values of a list before a statement: those behind it, but for its result, and those that it adds.
+fn list_before(
+    alloc: Global,
+    statement: &Statement,
+    next: &[u32],
+    named: &[u32],
+    here: &[u32],
+) -> Result<Vec<u32>, NoMemory> {
+    let behind = list_behind(alloc, statement.action, next, named)?;
+    alive_before(alloc, here, statement.into, &behind)
 }
 
 // What comes to have to be in its slot before a statement.
@@ -269,13 +310,13 @@ fn crossing_by(alloc: Global, statement: &Statement, behind: &[u32]) -> Result<V
 // The values that are alive behind a later action that spoils some registers, before a statement.
 fn crossing_before(
     alloc: Global,
-    walk: &Walk,
     statement: &Statement,
+    next: &[u32],
+    named: &[u32],
     behind: &[u32],
 ) -> Result<Vec<u32>, NoMemory> {
-    let later = alive_behind(alloc, statement.action, &walk.at.crossing, &walk.crossing)?;
     let here = crossing_by(alloc, statement, behind)?;
-    put_before(later, &here, statement.into)
+    list_before(alloc, statement, next, named, &here)
 }
 
 // The values that a statement computes with, or branches by. A copy of a value in a register saves nothing where that is copied again:
@@ -288,68 +329,68 @@ fn read_by(statement: &Statement) -> &[u32] {
     }
 }
 
-// The values that lines other than copies compute with before any call and any routine but take, before a statement.
-fn read_before(alloc: Global, walk: &Walk, statement: &Statement) -> Result<Vec<u32>, NoMemory> {
-    let later = match statement.action {
-        Action::Routine(Routine::Take) => copy_of(alloc, &walk.at.read)?,
-        action if spoils_some(action) => Vec::new(alloc),
-        action => alive_behind(alloc, action, &walk.at.read, &walk.read)?,
-    };
-    put_before(later, read_by(statement), statement.into)
-}
-
-// The values that come to a label to which more than one way leads, by those behind a statement.
-fn joining_by(
-    alloc: Global,
-    walk: &Walk,
-    action: Action,
-    behind: &[u32],
-    lone: &[u32],
-) -> Result<Vec<u32>, NoMemory> {
+// Those of the next values to be read that are read before any call and any routine but take.
+fn read_next(action: Action, next: &Needs) -> &[u32] {
     match action {
-        Action::Label(label) if !is_one_of(label, lone) => copy_of(alloc, behind),
-        Action::Jump(label) | Action::Branch(_, label) if !is_one_of(label, lone) => {
-            copy_of(alloc, alive_at(&walk.alive, label))
-        }
-        _ => Ok(Vec::new(alloc)),
+        Action::Routine(Routine::Take) => &next.read,
+        action if spoils_some(action) => &[],
+        _ => &next.read,
     }
 }
 
-// The values that are alive at a later label to which more than one way leads, before a statement and before any call.
-fn joining_before(
-    alloc: Global,
-    walk: &Walk,
-    statement: &Statement,
-    behind: &[u32],
-    lone: &[u32],
-) -> Result<Vec<u32>, NoMemory> {
-    let action = statement.action;
-    let later = if spoils_many(action) {
-        Vec::new(alloc)
+// Those of the next values to come to labels that come there before any call.
+fn joining_next(action: Action, next: &Needs) -> &[u32] {
+    if spoils_many(action) {
+        &[]
     } else {
-        alive_behind(alloc, action, &walk.at.joining, &walk.joining)?
-    };
-    let here = joining_by(alloc, walk, action, behind, lone)?;
-    put_before(later, &here, statement.into)
+        &next.joining
+    }
+}
+
+// The values that come to a label to which more than one way leads, by those behind a statement and those at the label that it names.
+fn joining_by<'a>(action: Action, behind: &'a [u32], named: &'a [u32], lone: &[u32]) -> &'a [u32] {
+    match action {
+        Action::Label(label) if !is_one_of(label, lone) => behind,
+        Action::Jump(label) | Action::Branch(_, label) if !is_one_of(label, lone) => named,
+        _ => &[],
+    }
 }
 
 // The values that both lists have.
 fn in_both(alloc: Global, values: &[u32], others: &[u32]) -> Result<Vec<u32>, NoMemory> {
-    Ok(
-        values
-            .iter()
-            .copied()
-            .filter(|value| is_one_of(*value, others))
-            .collect(alloc)?,
-    )
+    let mut both = Vec::new(alloc);
+    for value in values {
+        if is_one_of(*value, others) {
+            both.push(*value)?;
+        }
+    }
+    Ok(both)
 }
 
 // What has to be stored behind an action on each way on.
-fn stored_behind(alloc: Global, walk: &Walk, action: Action) -> Result<Vec<u32>, NoMemory> {
+fn stored_behind(
+    alloc: Global,
+    action: Action,
+    next: &[u32],
+    named: &[u32],
+) -> Result<Vec<u32>, NoMemory> {
     match action {
-        Action::Branch(_, label) => in_both(alloc, &walk.at.stored, alive_at(&walk.stored, label)),
-        _ => alive_behind(alloc, action, &walk.at.stored, &walk.stored),
+        Action::Branch(..) => in_both(alloc, next, named),
+        _ => list_behind(alloc, action, next, named),
     }
+}
+
+// What has to be stored before a statement on each way on.
+fn stored_before(
+    alloc: Global,
+    statement: &Statement,
+    next: &[u32],
+    named: &[u32],
+    behind: &[u32],
+) -> Result<Vec<u32>, NoMemory> {
+    let later = stored_behind(alloc, statement.action, next, named)?;
+    let here = slotted_by(alloc, statement, behind)?;
+    alive_before(alloc, &here, statement.into, &later)
 }
 
 // What a wish for an argument of the action is worth: code that calls its own function again runs most often.
@@ -376,39 +417,32 @@ fn add_wish(wishes: &mut Vec<Wish>, wish: Wish) -> Result<(), NoMemory> {
     Ok(())
 }
 
-fn wishes_at<'a>(points: &'a [LabelWishes], label: u32) -> &'a [Wish] {
-    for point in points {
-        if point.label == label {
-            return &point.wishes;
-        }
-    }
-    &[]
-}
-
-// The wishes behind an action.
-fn wishes_behind(alloc: Global, walk: &Walk, action: Action) -> Result<Vec<Wish>, NoMemory> {
-    let mut wishes = Vec::new(alloc);
+// The wishes behind an action, by those at the next statement and those at the label that it names.
+fn wishes_behind(
+    alloc: Global,
+    action: Action,
+    next: &[Wish],
+    named: &[Wish],
+) -> Result<Vec<Wish>, NoMemory> {
     match action {
-        Action::Jump(label) => {
-            wishes.extend_from_slice(wishes_at(&walk.wishes, label))?;
-        }
-        Action::Branch(_, label) => {
-            wishes.extend_from_slice(&walk.at.wishes)?;
-            for wish in wishes_at(&walk.wishes, label) {
+        Action::Jump(_) => Ok(Vec::from_slice(alloc, named)?),
+        Action::Branch(..) => {
+            let mut wishes = Vec::from_slice(alloc, next)?;
+            for wish in named {
                 add_wish(&mut wishes, *wish)?;
             }
+            Ok(wishes)
         }
-        Action::TailCall(_) | Action::Return => {}
-        _ => wishes.extend_from_slice(&walk.at.wishes)?,
+        Action::TailCall(_) | Action::Return => Ok(Vec::new(alloc)),
+        _ => Ok(Vec::from_slice(alloc, next)?),
     }
-    Ok(wishes)
 }
 
 // What a copy wishes for, its value wishes for too, unless this keeps its register behind the copy.
-fn copied_wish(walk: &Walk, statement: &Statement, wish: Wish) -> Option<Wish> {
+fn copied_wish(next: &Plan, statement: &Statement, wish: Wish) -> Option<Wish> {
     let copied = copied_by(statement)?;
-    let keeps_its_register = is_one_of(copied.from, &walk.at.point.alive)
-        && !is_one_of(copied.from, &walk.at.stored);
+    let keeps_its_register = is_one_of(copied.from, &next.point.alive)
+        && !is_one_of(copied.from, &next.needs.stored);
     let wanted = Wish {
         value: copied.from,
         ..wish
@@ -416,14 +450,13 @@ fn copied_wish(walk: &Walk, statement: &Statement, wish: Wish) -> Option<Wish> {
     (copied.into == wish.value && !keeps_its_register).then_some(wanted)
 }
 
-// The wishes with those for the arguments of a statement that are taken in their registers. One that is read on behind the statement
-// wishes for none of them, since the statement may spoil it.
-fn with_arguments(
-    wishes: Vec<Wish>,
+// Adds the wishes for the arguments of a statement that are taken in their registers. One that is read on behind the statement wishes
+// for none of them, since the statement may spoil it.
+fn add_arguments(
+    wishes: &mut Vec<Wish>,
     statement: &Statement,
     behind: &[u32],
-) -> Result<Vec<Wish>, NoMemory> {
-    let mut next = wishes;
+) -> Result<(), NoMemory> {
     for (index, value) in statement.args.iter().enumerate() {
         if let Some(register) = argument_register(index)
             && !is_read_on(statement, *value, behind)
@@ -433,25 +466,26 @@ fn with_arguments(
                 register,
                 worth: worth_of(statement.action),
             };
-            add_wish(&mut next, wish)?;
+            add_wish(wishes, wish)?;
         }
     }
-    Ok(next)
+    Ok(())
 }
 
 // The wishes before a statement: those behind it, but for its result and for registers that it spoils, and those for its arguments.
 fn wishes_before(
     alloc: Global,
-    walk: &Walk,
+    next: &Plan,
+    named: &Plan,
     statement: &Statement,
     behind: &[u32],
 ) -> Result<Vec<Wish>, NoMemory> {
     let action = statement.action;
-    let later = wishes_behind(alloc, walk, action)?;
-    let mut wishes = Vec::with_capacity(alloc, later.len())?;
+    let later = wishes_behind(alloc, action, &next.wishes, &named.wishes)?;
+    let mut wishes = Vec::new(alloc);
     let mut copied = None;
     for wish in &later {
-        if let Some(wish) = copied_wish(walk, statement, *wish) {
+        if let Some(wish) = copied_wish(next, statement, *wish) {
             copied = Some(wish);
         }
         if !is_result(statement.into, wish.value) && !may_spoil(action, wish.register.number) {
@@ -461,32 +495,33 @@ fn wishes_before(
     if let Some(wish) = copied {
         add_wish(&mut wishes, wish)?;
     }
-    match action {
-        Action::Call(_) | Action::TailCall(_) | Action::Return | Action::Routine(_) => {
-            with_arguments(wishes, statement, behind)
-        }
-        _ => Ok(wishes),
+    if takes_in_registers(action) {
+        add_arguments(&mut wishes, statement, behind)?;
     }
+    Ok(wishes)
 }
 
 // The next labels on the way on from a statement.
-fn ahead_before(alloc: Global, walk: &Walk, action: Action) -> Result<Vec<u32>, NoMemory> {
+fn ahead_before(
+    alloc: Global,
+    action: Action,
+    next: &[u32],
+    named: &[u32],
+) -> Result<Vec<u32>, NoMemory> {
     match action {
         Action::Label(label) => {
             let mut ahead = Vec::new(alloc);
             ahead.push(label)?;
-            for other in &walk.at.ahead {
+            for other in next {
                 if ahead.len() < MOST_AHEAD {
                     ahead.push(*other)?;
                 }
             }
             Ok(ahead)
         }
-        Action::Branch(_, label) if walk.at.ahead.is_empty() => {
-            copy_of(alloc, alive_at(&walk.ahead, label))
-        }
-        Action::Branch(..) => copy_of(alloc, &walk.at.ahead),
-        _ => alive_behind(alloc, action, &walk.at.ahead, &walk.ahead),
+        Action::Branch(..) if next.is_empty() => copy_of(alloc, named),
+        Action::Branch(..) => copy_of(alloc, next),
+        _ => list_behind(alloc, action, next, named),
     }
 }
 
@@ -501,19 +536,18 @@ fn copied_by(statement: &Statement) -> Option<Copied> {
     }
 }
 
-// The next copies in the code, before a statement.
+// The next copies in the code, before a statement, by those before the next one.
 fn copies_before(
     alloc: Global,
-    walk: &Walk,
     statement: &Statement,
+    next: &[Copied],
 ) -> Result<Vec<Copied>, NoMemory> {
     let Some(first) = copied_by(statement) else {
-        return Ok(Vec::from_slice(alloc, &walk.at.copies)?);
+        return Ok(Vec::from_slice(alloc, next)?);
     };
-    let most = MOST_AHEAD.min(walk.at.copies.len().saturating_add(1));
-    let mut copies = Vec::with_capacity(alloc, most)?;
+    let mut copies = Vec::new(alloc);
     copies.push(first)?;
-    for copied in &walk.at.copies {
+    for copied in next {
         if copies.len() < MOST_AHEAD {
             copies.push(*copied)?;
         }
@@ -521,94 +555,116 @@ fn copies_before(
     Ok(copies)
 }
 
-fn plan_before(
+// What is alive and what is held before a statement, by what is alive behind it.
+fn point_before(
     alloc: Global,
-    walk: &Walk,
     statement: &Statement,
+    next: &Point,
+    behind: &[u32],
+) -> Result<Point, NoMemory> {
+    let held = held_before(alloc, statement.action, &statement.args, &next.held)?;
+    let alive = alive_before(alloc, &statement.args, statement.into, behind)?;
+    Ok(Point { alive, held })
+}
+
+// What the code needs of values before a statement.
+fn needs_before(
+    alloc: Global,
     lone: &[u32],
+    next: &Plan,
+    named: &Plan,
+    statement: &Statement,
+    behind: &[u32],
     care: &Care,
-) -> Result<Plan, NoMemory> {
+) -> Result<Needs, NoMemory> {
     let action = statement.action;
-    let into = statement.into;
-    let behind = alive_behind(alloc, action, &walk.at.point.alive, &walk.alive)?;
-    let alive = put_before(copy_of(alloc, &behind)?, &statement.args, into)?;
-    let held = held_before(alloc, action, &statement.args, &walk.at.point.held)?;
-    let later = alive_behind(alloc, action, &walk.at.slotted, &walk.slotted)?;
-    let here = slotted_with_care(alloc, statement, &behind, lone, care)?;
-    let slotted = put_before(later, &here, into)?;
-    let later = stored_behind(alloc, walk, action)?;
-    let here = slotted_by(alloc, statement, &behind)?;
-    let stored = put_before(later, &here, into)?;
-    Ok(Plan {
-        point: Point { alive, held },
-        slotted,
-        stored,
-        crossing: crossing_before(alloc, walk, statement, &behind)?,
-        joining: joining_before(alloc, walk, statement, &behind, lone)?,
-        read: read_before(alloc, walk, statement)?,
-        wishes: wishes_before(alloc, walk, statement, &behind)?,
-        ahead: ahead_before(alloc, walk, action)?,
-        copies: copies_before(alloc, walk, statement)?,
+    let (later, there) = (&next.needs, &named.needs);
+    let slots = slotted_with_care(alloc, statement, behind, lone, care)?;
+    let joined = joining_by(action, behind, &named.point.alive, lone);
+    Ok(Needs {
+        slotted: list_before(alloc, statement, &later.slotted, &there.slotted, &slots)?,
+        stored: stored_before(alloc, statement, &later.stored, &there.stored, behind)?,
+        crossing: crossing_before(alloc, statement, &later.crossing, &there.crossing, behind)?,
+        joining: list_before(
+            alloc,
+            statement,
+            joining_next(action, later),
+            &there.joining,
+            joined,
+        )?,
+        read: list_before(
+            alloc,
+            statement,
+            read_next(action, later),
+            &there.read,
+            read_by(statement),
+        )?,
     })
 }
 
-// Adds the values of one label more to a table.
-fn put_point(
+// What is needed before a statement, by what is needed at the next one and at the label that it names.
+fn plan_before(
     alloc: Global,
-    points: &mut Vec<LabelPoint>,
-    label: u32,
-    values: &[u32],
-) -> Result<(), NoMemory> {
-    let alive = copy_of(alloc, values)?;
-    points.push(LabelPoint { label, alive })?;
-    Ok(())
+    lone: &[u32],
+    next: &Plan,
+    named: &Plan,
+    statement: &Statement,
+    care: &Care,
+) -> Result<Plan, NoMemory> {
+    let action = statement.action;
+    let behind = list_behind(alloc, action, &next.point.alive, &named.point.alive)?;
+    Ok(Plan {
+        point: point_before(alloc, statement, &next.point, &behind)?,
+        needs: needs_before(alloc, lone, next, named, statement, &behind, care)?,
+        wishes: wishes_before(alloc, next, named, statement, &behind)?,
+        ahead: ahead_before(alloc, action, &next.ahead, &named.ahead)?,
+        copies: copies_before(alloc, statement, &next.copies)?,
+    })
 }
 
-// Adds what is needed at one label more to the tables.
-fn put_label(alloc: Global, walk: &mut Walk, label: u32, plan: &Plan) -> Result<(), NoMemory> {
-    put_point(alloc, &mut walk.alive, label, &plan.point.alive)?;
-    put_point(alloc, &mut walk.slotted, label, &plan.slotted)?;
-    put_point(alloc, &mut walk.stored, label, &plan.stored)?;
-    put_point(alloc, &mut walk.crossing, label, &plan.crossing)?;
-    put_point(alloc, &mut walk.joining, label, &plan.joining)?;
-    put_point(alloc, &mut walk.read, label, &plan.read)?;
-    put_point(alloc, &mut walk.ahead, label, &plan.ahead)?;
-    let wishes = Vec::from_slice(alloc, &plan.wishes)?;
-    walk.wishes.push(LabelWishes { label, wishes })?;
-    Ok(())
-}
-
+// Adds what is needed before a statement, and tells how many values are alive there.
 fn step(
     alloc: Global,
-    walk: &mut Walk,
+    plans: &mut Plans,
     statement: &Statement,
-    lone: &[u32],
     care: &Care,
-) -> Result<(), NoMemory> {
-    let before = plan_before(alloc, walk, statement, lone, care)?;
-    if let Action::Label(label) = statement.action {
-        put_label(alloc, walk, label, &before)?;
+) -> Result<usize, NoMemory> {
+    let action = statement.action;
+    let (Some(next), Some(named)) = (plans.points.last(), plans.named_by(action)) else {
+        return Ok(0);
+    };
+    let before = plan_before(alloc, &plans.lone, next, named, statement, care)?;
+    let count = before.point.alive.len();
+    if let Action::Label(label) = action {
+        let index = plans.points.len();
+        plans.labels.push(LabelIndex { label, index })?;
     }
-    let behind = mem::replace(&mut walk.at, before);
-    walk.passed.push(behind)?;
-    Ok(())
+    plans.points.push(before)?;
+    Ok(count)
 }
 
 fn is_too_much(lines: usize, values: usize) -> bool {
     values > MOST_VALUES || lines > MOST_WORK / (values * values + 1)
 }
 
+fn no_needs(alloc: Global) -> Needs {
+    Needs {
+        slotted: Vec::new(alloc),
+        stored: Vec::new(alloc),
+        crossing: Vec::new(alloc),
+        joining: Vec::new(alloc),
+        read: Vec::new(alloc),
+    }
+}
+
+// At the end of the code, nothing is needed.
 fn no_plan(alloc: Global) -> Plan {
     Plan {
         point: Point {
             alive: Vec::new(alloc),
             held: Vec::new(alloc),
         },
-        slotted: Vec::new(alloc),
-        stored: Vec::new(alloc),
-        crossing: Vec::new(alloc),
-        joining: Vec::new(alloc),
-        read: Vec::new(alloc),
+        needs: no_needs(alloc),
         wishes: Vec::new(alloc),
         ahead: Vec::new(alloc),
         copies: Vec::new(alloc),
@@ -617,37 +673,17 @@ fn no_plan(alloc: Global) -> Plan {
 
 /// What is needed at the points of code; or `None` where it would be too much work.
 pub fn plans_of(alloc: Global, code: &[Statement], care: &Care) -> Result<Option<Plans>, NoMemory> {
-    let lone = lone_labels(alloc, code)?;
-    let mut walk = Walk {
-        passed: Vec::new(alloc),
-        at: no_plan(alloc),
-        wishes: Vec::new(alloc),
-        ahead: Vec::new(alloc),
-        alive: Vec::new(alloc),
-        slotted: Vec::new(alloc),
-        stored: Vec::new(alloc),
-        crossing: Vec::new(alloc),
-        joining: Vec::new(alloc),
-        read: Vec::new(alloc),
+    let mut plans = Plans {
+        points: Vec::new(alloc),
+        labels: Vec::new(alloc),
+        lone: lone_labels(alloc, code)?,
     };
-    let mut left = code.len();
-    while left > 0 {
-        left -= 1;
-        step(alloc, &mut walk, &code[left], &lone, care)?;
-        if is_too_much(code.len(), walk.at.point.alive.len()) {
+    plans.points.push(no_plan(alloc))?;
+    for statement in code.iter().rev() {
+        let count = step(alloc, &mut plans, statement, care)?;
+        if is_too_much(code.len(), count) {
             return Ok(None);
         }
     }
-    let Walk {
-        mut passed,
-        at,
-        alive,
-        ..
-    } = walk;
-    passed.push(at)?;
-    Ok(Some(Plans {
-        points: passed,
-        alive,
-        lone,
-    }))
+    Ok(Some(plans))
 }

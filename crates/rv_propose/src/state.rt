@@ -3,7 +3,7 @@
 ghost use Rattle.std.specs.Prelude.{◌≡◌};
 ghost use Rattle.rv_propose.specs.Listings.{listed_as};
 
-use crate::liveness::{Point, is_one_of};
+use crate::liveness::{Point, is_one_of, is_result};
 use crate::plans::{Plan, Wish, may_spoil};
 use kk_base::NoMemory;
 use rv_isa::{Action, Listed, Operand, Place, Register};
@@ -60,8 +60,8 @@ pub fn is_in(listed: Listed, register: Register) -> bool {
     stands_in(listed, register) || is_copied_in(listed, register)
 }
 
-/// The listing without its copy, if this register has it.
-pub fn without_copy_in(listed: Listed, register: Register) -> Listed {
+// The listing without its copy, if this register has it.
+fn without_copy_in(listed: Listed, register: Register) -> Listed {
     if is_copied_in(listed, register) {
         Listed {
             copy: None,
@@ -98,47 +98,16 @@ const VALUE_REGISTERS: [u8; 18] = [
     6, 7, 28, 29, 30, 31, 21, 22, 23, 24, 25, 26, 27, 4, 17, 16, 15, 14,
 ];
 
-// Marks a register as used.
-fn mark(used: &mut [bool; 32], register: Register) {
-    if let Some(is_used) = used.get_mut(usize::from(register.number)) {
-        *is_used = true;
-    }
-}
-
-/// For each number whether a value has the register.
-pub fn used_registers(state: &[Listed]) -> [bool; 32] {
-    let mut used = [false; 32];
-    for listed in state {
-        if let Place::Register(register) = listed.place {
-            mark(&mut used, register);
-        }
-        if let Some(register) = listed.copy {
-            mark(&mut used, register);
-        }
-    }
-    used
-}
-
-// Whether the register of a number is used.
-fn is_used(used: &[bool; 32], number: u8) -> bool {
-    match used.get(usize::from(number)) {
-        Some(is_used) => *is_used,
-        None => false,
-    }
-}
-
-/// A register that values may stay in and that is used by neither of two tables.
-pub fn unused_register(used: &[bool; 32], awaited: &[bool; 32]) -> Option<Register> {
+/// A register that values may stay in and that no value has, neither here nor there.
+pub fn free_register(state: &[Listed], there: &[Listed]) -> Option<Register> {
     for number in VALUE_REGISTERS {
-        if !is_used(used, number) && !is_used(awaited, number) {
-            return Register::try_new(number);
+        if let Some(register) = Register::try_new(number) {
+            if is_free(state, register) && is_free(there, register) {
+                return Some(register);
+            }
         }
     }
     None
-}
-
-fn free_register(state: &[Listed]) -> Option<Register> {
-    unused_register(&used_registers(state), &[false; 32])
 }
 
 fn register_to_be_had(state: &[Listed], keep: &[u32]) -> Option<Register> {
@@ -154,7 +123,7 @@ fn register_to_be_had(state: &[Listed], keep: &[u32]) -> Option<Register> {
 
 /// A register for a value: a free one if there is one, else one that has at most copies, and none of these values.
 pub fn any_register(state: &[Listed], keep: &[u32]) -> Option<Register> {
-    match free_register(state) {
+    match free_register(state, &[]) {
         Some(register) => Some(register),
         None => register_to_be_had(state, keep),
     }
@@ -192,7 +161,7 @@ pub fn wished_register(
     for wish in &plan.wishes {
         if wish.value == value
             && is_to_be_had(state, keep, wish.register)
-            && !is_only_copy(state, &plan.read, wish.register)
+            && !is_only_copy(state, &plan.needs.read, wish.register)
         {
             return Some(wish.register);
         }
@@ -202,7 +171,12 @@ pub fn wished_register(
 
 /// Whether another value wishes for the register where this one stands.
 pub fn is_wished_for(listed: Listed, wishes: &[Wish]) -> bool {
-    wishes.iter().any(|wish| wish.value != listed.value && stands_in(listed, wish.register))
+    for wish in wishes {
+        if wish.value != listed.value && stands_in(listed, wish.register) {
+            return true;
+        }
+    }
+    false
 }
 
 /// Whether the value is in its slot.
@@ -227,21 +201,17 @@ fn listed_at(state: &[Listed], point: &Point, value: u32) -> Listed {
     }
 }
 
-/// The listings of a point, by where values stand. One of which this does not tell is in its slot.
-pub fn state_at(alloc: Global, state: &[Listed], point: &Point) -> Result<Vec<Listed>, NoMemory> {
-    let mut next = Vec::with_capacity(alloc, point.alive.len())?;
+/// The listings of a point, by where values stand, but for that of one value. One of which this does not tell is in its slot.
+pub fn state_at(
+    alloc: Global,
+    state: &[Listed],
+    point: &Point,
+    but: Option<u32>,
+) -> Result<Vec<Listed>, NoMemory> {
+    let mut next = Vec::new(alloc);
     for value in &point.alive {
-        next.push(listed_at(state, point, *value))?;
-    }
-    Ok(next)
-}
-
-/// The listings without that of a value.
-pub fn state_without(alloc: Global, state: &[Listed], value: u32) -> Result<Vec<Listed>, NoMemory> {
-    let mut next = Vec::with_capacity(alloc, state.len())?;
-    for listed in state {
-        if listed.value != value {
-            next.push(*listed)?;
+        if !is_result(but, *value) {
+            next.push(listed_at(state, point, *value))?;
         }
     }
     Ok(next)
@@ -265,30 +235,27 @@ fn unspoilt(listed: Listed, action: Action) -> Listed {
     }
 }
 
-/// The listings behind an action: a value that stands in two registers, of which the action may spoil one, stands in the other one.
-pub fn state_behind(
-    alloc: Global,
-    state: &[Listed],
-    action: Action,
-) -> Result<Vec<Listed>, NoMemory> {
-    let mut next = Vec::with_capacity(alloc, state.len())?;
-    for listed in state {
-        next.push(unspoilt(*listed, action))?;
+/// Values stand as they do behind an action: one that stands in two registers, of which the action may spoil one, in the other one.
+pub fn leave_spoilt_registers(state: &mut [Listed], action: Action) {
+    for listed in state.iter_mut() {
+        *listed = unspoilt(*listed, action);
     }
-    Ok(next)
 }
 
-/// The same listings, in memory of their own, where the register has no copy.
-pub fn state_clear_of(
-    alloc: Global,
-    state: &[Listed],
-    register: Register,
-) -> Result<Vec<Listed>, NoMemory> {
-    let mut next = Vec::with_capacity(alloc, state.len())?;
-    for listed in state {
-        next.push(without_copy_in(*listed, register))?;
+/// The register has no copy any longer.
+pub fn lose_copies_in(state: &mut [Listed], register: Register) {
+    for listed in state.iter_mut() {
+        *listed = without_copy_in(*listed, register);
     }
-    Ok(next)
+}
+
+/// A value is listed as `after`.
+pub fn list_as(state: &mut [Listed], after: Listed) {
+    for listed in state.iter_mut() {
+        if listed.value == after.value {
+            *listed = after;
+        }
+    }
 }
 
 /// The same listings, in memory of their own.

@@ -12,7 +12,7 @@ ghost use Rattle.rv_isa.specs.Frames.{found};
 ghost use Rattle.rv_isa.specs.PlacedMachine.{is_label_line};
 
 use crate::conventions::{is_argument, stand_as_taken};
-use crate::keeping::{all_allowed, all_needed, all_stay_held, keeps_all, write_allowed};
+use crate::keeping::{all_allowed, all_needed, all_stay_held, keeps_all_at_each, write_allowed};
 use crate::places::{all_apart, all_at_place, same_action};
 use kk_base::Text;
 use rv_isa::{
@@ -253,8 +253,7 @@ fn fits(
     all_needed(alive, reads, write, behind, at_label)
         && all_apart(alive)
         && all_at_place(alive, reads)
-        && behind.is_none_or(|next| keeps_all(alive, reads, write, action, next))
-        && at_label.is_none_or(|next| keeps_all(alive, reads, write, action, next))
+        && keeps_all_at_each(alive, reads, write, action, behind, at_label)
         && all_allowed(alive)
         && write_allowed(action, write)
         && all_stay_held(alive, reads, action, behind, at_label)

@@ -18,7 +18,10 @@ use rv_propose::listing;
 pub fn may_spoil(action: Option<Action>, register: u8) -> bool
     ensures { result ≡ spoils_by action register }
 {
-    action.is_some_and(|action| rv_propose::may_spoil(action, register))
+    match action {
+        Some(action) => rv_propose::may_spoil(action, register),
+        None => false,
+    }
 }
 
 fn is_first_read(reads: &[Operand], value: u32) -> bool
@@ -213,8 +216,8 @@ fn is_kept(
             && is_copy_safe(action, listed.copy)
 }
 
-/// Whether the line keeps all that is listed at a point where it goes on.
-pub fn keeps_all(
+// Whether the line keeps all that is listed at a point where it goes on.
+fn keeps_all(
     alive: &[Listed],
     reads: &[Operand],
     write: Option<Operand>,
@@ -227,11 +230,35 @@ pub fn keeps_all(
         .all(|listed| is_kept(alive, reads, write, action, *listed))
 }
 
+/// Whether the line keeps all that is listed where it goes on.
+pub fn keeps_all_at_each(
+    alive: &[Listed],
+    reads: &[Operand],
+    write: Option<Operand>,
+    action: Option<Action>,
+    behind: Option<&[Listed]>,
+    at_label: Option<&[Listed]>,
+) -> bool
+    ensures { IsTrue result ↔ AllByRecursion (All (IsKept alive.now action reads.now write)) (both_of (point_of behind.entry) (point_of at_label.entry)) }
+{
+    match (behind, at_label) {
+        (Some(next), Some(there)) => {
+            keeps_all(alive, reads, write, action, next)
+                && keeps_all(alive, reads, write, action, there)
+        }
+        (Some(next), None) | (None, Some(next)) => keeps_all(alive, reads, write, action, next),
+        (None, None) => true,
+    }
+}
+
 fn is_listed_in(value: u32, behind: Option<&[Listed]>, at_label: Option<&[Listed]>) -> bool
     ensures { IsTrue result ↔ IsListedIn (both_of (point_of behind.entry) (point_of at_label.entry)) value }
 {
-    behind.is_some_and(|next| is_listed(next, value))
-        || at_label.is_some_and(|next| is_listed(next, value))
+    match (behind, at_label) {
+        (Some(next), Some(there)) => is_listed(next, value) || is_listed(there, value),
+        (Some(next), None) | (None, Some(next)) => is_listed(next, value),
+        (None, None) => false,
+    }
 }
 
 fn is_needed(
@@ -321,8 +348,13 @@ fn is_listed_at_each(
 ) -> bool
     ensures { IsTrue result ↔ AllByRecursion (λ next. listed_as value next ≡ Some listed) (both_of (point_of behind.entry) (point_of at_label.entry)) }
 {
-    behind.is_none_or(|next| is_listing_of(next, value, listed))
-        && at_label.is_none_or(|next| is_listing_of(next, value, listed))
+    match (behind, at_label) {
+        (Some(next), Some(there)) => {
+            is_listing_of(next, value, listed) && is_listing_of(there, value, listed)
+        }
+        (Some(next), None) | (None, Some(next)) => is_listing_of(next, value, listed),
+        (None, None) => true,
+    }
 }
 
 fn stays_held(

@@ -1,5 +1,5 @@
 use Rattle.std.proofs.Common.{◌≡◌, ◌<◌, ◌-◌, ◌+◌, ◌*◌, ◌++◌, ◌∷◌, ◌∙◌, [], List, ℕ, length, map, refl, sym, ap, subst, arith}
-use Rattle.std.proofs.lemmas.List.{map-append, length-map}
+use Rattle.std.proofs.lemmas.List.{length-map}
 use Rattle.rv_isa.specs.AsmCode.{Line, line_of, lines_of}
 use Rattle.rv_isa.specs.ValueBounds.{AreLinesBelow}
 use Rattle.rv_inline.specs.InLine.{in_line, most_fresh}
@@ -42,8 +42,9 @@ returns c =
     let line : Line = line_of c.args.statement.now in (
       line ∷ [],
       (
-        ap (map line_of) c.in_ok-push.ensures.items ∙ map-append line_of c.args.code.now.items (c.in_ok-copied.field-0 ∷ [])
-            ∙ ap (λ (l : Line). map line_of c.args.code.now.items ++ (l ∷ [])) c.in_ok-copied.ensures,
+        c.in_ok-push_line.ensures
+            ∙ ap (λ (args : List ℕ). map line_of c.args.code.now.items ++ (record line { args = args } ∷ []))
+            c.deref-2.ensures.value,
         stays (map lines_of c.args.functions.now) c.args.base c.args.growth line,
       ),
     )
