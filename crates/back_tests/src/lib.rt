@@ -1,18 +1,10 @@
-//! Tests of the public calls of rv_isa, of cell_runtime, of elf_image, of rv_regs and of rv_sim, and of the devices in memory: tests
-//! alone.
+//! Tests of rv_regs, of values that stay in registers, of rv_sim, of cells that are free where no compiled program leaves them so, and of
+//! what errors tell: tests alone. What the built program shows of the crates below stands in examples/ and tests/.
 #![tactic(auto)]
 
 #[cfg(test)]
-mod devices;
+mod errors;
 #[cfg(test)]
-mod elf_files;
-#[cfg(test)]
-mod instructions;
-#[cfg(test)]
-mod places;
-#[cfg(test)]
-mod runtime;
-#[cfg(test)]
-mod simulator;
+mod free_cells;
 #[cfg(test)]
 mod slots;

@@ -1,5 +1,6 @@
 //! What `build` gives is what the layers below it give, one called after the other.
 
+use crate::rows::{REVERSE, with_lists};
 use elf_image::write;
 use kk_back::image;
 use kk_base::{Bytes, NoMemory};
@@ -19,41 +20,9 @@ const CELLS: u32 = 65_536;
 
 const DEPTH: u32 = 4_096;
 
-/// A text that begins with lists, and with functions that build one and count its cells.
-macro_rules! with_lists {
-    ($rest:literal) => {
-        concat!(
-            "type list<a> { Nil; Cons(head: a, tail: list<a>) }
-fun build(n: int32): list<int32>
-  if n == 0 then Nil else Cons(n, build(n - 1))
-fun len(xs: list<a>): int32
-  match xs
-    Nil -> 0
-    Cons(_, xx) -> 1 + len(xx)
-",
-            $rest
-        )
-    };
-}
-
-pub(crate) use with_lists;
-
 /// The text of examples/arithmetic.kk. It has no match and no cell.
 const ARITHMETIC: &str = "fun main() { println(1 + 2 * 3) }
 ";
-
-/// The text of examples/reverse.kk.
-pub(crate) const REVERSE: &str = with_lists!(
-    "fun rev(xs: list<a>, acc: list<a>): list<a>
-  match xs
-    Cons(x, xx) -> rev(xx, Cons(x, acc))
-    Nil -> acc
-fun main()
-  match rev(build(3), Nil)
-    Cons(x, _) -> println(x)
-    Nil -> println(0)
-"
-);
 
 /// The text of examples/lent-parameter.kk.
 const LENT_PARAMETER: &str = with_lists!(

@@ -1,17 +1,15 @@
-//! Tests of the program over devices in memory, of the layers that `build` goes through, of the cells and the tokens of an image
-//! beside those of a slow machine, and of the adapters over real files: tests alone.
+//! Tests of the layers that `build` goes through, of the cells and the tokens of an image beside those of a slow machine, and of a source
+//! that fails on its way: tests alone.
 #![tactic(auto)]
 
 #[cfg(test)]
 mod adapters;
 #[cfg(test)]
-mod commands;
-#[cfg(test)]
-mod devices;
-#[cfg(test)]
 mod hand_code;
 #[cfg(test)]
 mod layers;
+#[cfg(test)]
+mod rows;
 #[cfg(test)]
 mod same_cells;
 #[cfg(test)]

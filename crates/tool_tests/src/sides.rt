@@ -3,16 +3,15 @@
 use crate::token_heap::{Heap, Value};
 use kk_core::ConstructorShape;
 use rv_sim::Machine;
-use std::alloc::Global;
-use std::test::Fail;
-
-/// No count of these runs is as great. A free cell's first word is 0 or an address, and those of the memory are not below.
-const LEAST_ADDRESS: u32 = 0x10000;
+use std::alloc::{AllocError, Global};
 
 const CELL_BYTES: u32 = 32;
 
-/// The most cells that are compared where one is unfolded.
-const UNFOLDED: u32 = 100_000;
+/// The most cells that are compared, one in another.
+const LEVELS: u32 = 1_000;
+
+/// What is read where no word is. No count, header or address is as great.
+const NO_WORD: u32 = 0xffff_ffff;
 
 /// Where an image has its cells and its frames.
 #[derive(Clone, Copy)]
@@ -27,10 +26,7 @@ pub(crate) struct Ground {
 
 impl Ground {
     /// Whether an address lies in the frame that so many frames stand above.
-    fn is_in_frame(&self, at: u32, above: usize) -> bool {
-        let Ok(above) = u32::try_from(above) else {
-            return false;
-        };
+    fn is_in_frame(&self, at: u32, above: u32) -> bool {
         let end = self.end.wrapping_sub(self.frame.wrapping_mul(above));
         (end.wrapping_sub(self.frame) <= at) & (at < end)
     }
@@ -49,28 +45,8 @@ fn header_of(shape: &ConstructorShape) -> u32 {
     header
 }
 
-/// The word of a value that is no cell; none of a cell.
-fn word_of(shapes: &[ConstructorShape], value: Value) -> Option<u32> {
-    match value {
-        Value::Integer(number) => Some(u32::from_le_bytes(number.to_le_bytes())),
-        Value::Unit => Some(1),
-        Value::Constant(constructor) => {
-            let shape = shapes.get(constructor as usize)?;
-            Some(shape.tag.wrapping_mul(2).wrapping_add(1))
-        }
-        Value::Place(_) => None,
-    }
-}
-
-/// A cell of the slow machine, by its name, and one of an image, by its address.
-#[derive(Clone, Copy)]
-struct Pair {
-    name: usize,
-    at: u32,
-}
-
 /// The cells of the slow machine beside those of an image.
-#[derive(Drop)]
+#[derive(Clone, Copy)]
 pub(crate) struct Sides<'a> {
     pub(crate) alloc: Global,
     pub(crate) shapes: &'a [ConstructorShape],
@@ -80,131 +56,115 @@ pub(crate) struct Sides<'a> {
 }
 
 impl Sides<'_> {
-    /// Whether two cells have the same count and header and the same words. The cells that their fields name are left.
-    fn are_alike(&self, pair: Pair, left: &mut Vec<Pair>) -> Result<bool, Fail> {
-        let cell = self.heap.cells.get(pair.name).ok_or("no such cell")?;
-        let shape = self.shapes.get(cell.made_by as usize).ok_or("no shape")?;
-        let count = self.machine.word(pair.at);
-        let header = self.machine.word(pair.at.wrapping_add(4));
-        let is_counted = count == Some(cell.count);
-        let is_made = header == Some(header_of(shape));
-        if !(is_counted & is_made & (cell.fields.len() == shape.fields.len())) {
-            return Ok(false);
+    /// The word at an address of the image.
+    fn word(&self, at: u32) -> u32 {
+        match self.machine.word(at) {
+            Some(word) => word,
+            None => NO_WORD,
         }
-        let mut at = pair.at.wrapping_add(8);
-        for field in &cell.fields {
-            let word = self.machine.word(at).ok_or("no such word")?;
-            match *field {
-                Value::Place(name) => left.push(Pair { name, at: word })?,
-                other => {
-                    if word_of(self.shapes, other) != Some(word) {
-                        return Ok(false);
-                    }
-                }
-            }
-            at = at.wrapping_add(4);
-        }
-        Ok(true)
     }
 
-    /// Whether two cells are alike, and those that their fields name, and so on.
-    fn unfold_alike(&self, pair: Pair) -> Result<bool, Fail> {
-        let mut left = Vec::new(self.alloc);
-        left.push(pair)?;
-        for _ in 0..UNFOLDED {
-            let Some(pair) = left.pop() else {
-                return Ok(true);
-            };
-            if !self.are_alike(pair, &mut left)? {
-                return Ok(false);
-            }
+    /// The word of a value that is no cell.
+    fn word_of(&self, value: Value) -> u32 {
+        match value {
+            Value::Integer(number) => u32::from_le_bytes(number.to_le_bytes()),
+            Value::Unit => 1,
+            Value::Constant(constructor) => match self.shapes.get(constructor as usize) {
+                Some(shape) => shape.tag.wrapping_mul(2).wrapping_add(1),
+                None => NO_WORD,
+            },
+            Value::Place(_) => NO_WORD,
         }
-        Err(Fail::new("too many cells are unfolded"))
     }
 
-    /// The addresses of the image's counted cells.
-    fn addresses(&self) -> Result<Vec<u32>, Fail> {
-        let mut addresses = Vec::new(self.alloc);
+    /// Whether the cells of a name and at an address have the same count, header and number of fields.
+    fn have_one_head(&self, name: usize, at: u32) -> bool {
+        let cell = self.heap.cell(name);
+        match self.shapes.get(cell.made_by as usize) {
+            Some(shape) => {
+                (self.word(at) == cell.count)
+                    & (self.word(at.wrapping_add(4)) == header_of(shape))
+                    & (shape.fields.len() == cell.length as usize)
+            }
+            None => false,
+        }
+    }
+
+    /// Whether a word is that of a value. The word of a cell is the address of one that has the same count and header, and the
+    /// words of its fields.
+    fn has_word(&self, value: Value, word: u32, levels: u32) -> bool {
+        let Value::Place(name) = value else {
+            return self.word_of(value) == word;
+        };
+        if levels == 0 || !self.have_one_head(name, word) {
+            return false;
+        }
+        for position in 0..self.heap.cell(name).length {
+            let field = self.heap.field(name, position);
+            let at = word.wrapping_add(8).wrapping_add(position.wrapping_mul(4));
+            if !self.has_word(field, self.word(at), levels - 1) {
+                return false;
+            }
+        }
+        true
+    }
+
+    /// The address of the first cell that is like the one of a name, and is none of these.
+    fn find(&self, name: usize, others: &[u32]) -> Option<u32> {
         let mut at = self.ground.first;
         for _ in 0..self.ground.cells {
-            let count = self.machine.word(at).ok_or("no such cell")?;
-            if (count > 0) & (count < LEAST_ADDRESS) {
-                addresses.push(at)?;
+            if !others.contains(&at) && self.has_word(Value::Place(name), at, LEVELS) {
+                return Some(at);
             }
             at = at.wrapping_add(CELL_BYTES);
         }
-        Ok(addresses)
+        None
     }
 
-    /// Strikes out the first address whose cell unfolds as the one of a name, if there is one.
-    fn strike(&self, name: usize, addresses: &mut [u32]) -> Result<bool, Fail> {
-        for address in addresses {
-            if *address != 0 && self.unfold_alike(Pair { name, at: *address })? {
-                *address = 0;
-                return Ok(true);
-            }
+    /// How many cells are counted, where the image has as many free ones and a cell like each of them; else none. The others are the
+    /// cells of tokens. They may still have the words that they had when they were counted.
+    pub(crate) fn counted_alike(&self) -> Result<Option<usize>, AllocError> {
+        if self.machine.free_cells(self.ground.cells) != self.heap.free {
+            return Ok(None);
         }
-        Ok(false)
-    }
-
-    /// How many counted cells there are on each side, where each unfolds as one of the other side; else none. The cell of a token may
-    /// still have the words that it had when it was counted.
-    fn counted_alike(&self) -> Result<Option<usize>, Fail> {
-        let mut addresses = self.addresses()?;
-        let mut counted: usize = 0;
+        let mut found = Vec::new(self.alloc);
         for (name, cell) in self.heap.cells.iter().enumerate() {
             if cell.count > 0 {
-                if !self.strike(name, &mut addresses)? {
-                    return Ok(None);
+                match self.find(name, &found) {
+                    Some(at) => found.push(at)?,
+                    None => return Ok(None),
                 }
-                counted = counted.saturating_add(1);
             }
         }
-        let tokens = addresses.len().saturating_sub(counted);
-        Ok(if tokens <= self.heap.tokens() {
-            Some(counted)
-        } else {
-            None
-        })
+        Ok(Some(found.len()))
     }
 
     /// Whether the image has the held tokens of the slow machine, in slots of the same frames. The newest one is a cell from which
     /// each names the one before it.
-    fn held_alike(&self) -> Result<bool, Fail> {
-        if self.heap.chain().is_empty() {
-            return Ok(true);
+    pub(crate) fn held_alike(&self) -> bool {
+        if self.heap.chain.is_empty() {
+            return true;
         }
         let mut at = self.ground.first;
         for _ in 0..self.ground.cells {
             if self.is_newest(at) {
-                return Ok(true);
+                return true;
             }
             at = at.wrapping_add(CELL_BYTES);
         }
-        Ok(false)
+        false
     }
 
     /// Whether the held tokens from a cell on are those of the slow machine. Each has the address of the one before it and that of its
     /// slot, which has its own.
     fn is_newest(&self, newest: u32) -> bool {
         let mut at = newest;
-        for slot in self.heap.chain().iter().rev() {
-            let place = self.machine.word(at.wrapping_add(4)).unwrap_or(0);
-            let is_named = self.machine.word(place) == Some(at);
-            if !(is_named & self.ground.is_in_frame(place, slot.frame)) {
-                return false;
-            }
-            at = self.machine.word(at).unwrap_or(1);
+        let mut alike = true;
+        for slot in self.heap.chain.iter().rev() {
+            let place = self.word(at.wrapping_add(4));
+            alike &= (self.word(place) == at) & self.ground.is_in_frame(place, slot.frame);
+            at = self.word(at);
         }
-        at == 0
-    }
-
-    /// How many cells are counted, where both have as many free cells, the same held tokens, and the same counted cells; else none.
-    pub(crate) fn all_alike(&self) -> Result<Option<usize>, Fail> {
-        let free = self.machine.free_cells(self.ground.cells) as usize;
-        if free == self.heap.free_cells() && self.held_alike()? {
-            return self.counted_alike();
-        }
-        Ok(None)
+        alike & (at == 0)
     }
 }

@@ -1,10 +1,12 @@
 //! The cells of the slow machine, by names in the order in which they were made, and its tokens.
 
-use std::alloc::Global;
-use std::test::Fail;
+use std::alloc::{AllocError, Global};
 
 /// The greatest number of references that are given up at once.
 const REFERENCES: u32 = 1_000_000;
+
+/// No cell has as many fields.
+pub(crate) const FIELDS: u32 = 32;
 
 /// A value of a variable or a field.
 #[derive(Clone, Copy)]
@@ -19,12 +21,22 @@ pub(crate) enum Value {
 }
 
 /// A cell. It is counted where its count is not 0.
-#[derive(Drop)]
+#[derive(Clone, Copy)]
 pub(crate) struct Cell {
     pub(crate) count: u32,
     pub(crate) made_by: u32,
-    pub(crate) fields: Vec<Value>,
+    /// How many fields it has, and where they begin among those of all cells.
+    pub(crate) length: u32,
+    first: usize,
 }
+
+/// What a name tells that no cell has.
+const NO_CELL: Cell = Cell {
+    count: 0,
+    made_by: 0,
+    length: 0,
+    first: 0,
+};
 
 /// What a slot has.
 #[derive(Clone, Copy)]
@@ -35,15 +47,21 @@ enum Token {
 }
 
 /// A slot of a function's frame, both by their numbers.
-#[derive(Clone, Copy, PartialEq, Eq)]
+#[derive(Clone, Copy)]
 pub(crate) struct Slot {
-    pub(crate) frame: usize,
+    pub(crate) frame: u32,
     pub(crate) number: u32,
 }
 
-/// A slot and what it has.
+impl Slot {
+    fn is(self, other: Slot) -> bool {
+        (self.frame == other.frame) & (self.number == other.number)
+    }
+}
+
+/// A slot and what it was given.
 #[derive(Clone, Copy)]
-struct Kept {
+struct Given {
     slot: Slot,
     token: Token,
 }
@@ -52,165 +70,179 @@ struct Kept {
 #[derive(Drop)]
 pub(crate) struct Heap {
     alloc: Global,
-    /// How many cells there may be, counted ones and tokens.
-    room: usize,
+    /// How many cells are free.
+    pub(crate) free: u32,
     pub(crate) cells: Vec<Cell>,
-    /// How many are counted.
-    counted: usize,
-    /// All slots that had a token.
-    kept: Vec<Kept>,
+    /// The fields of all cells.
+    fields: Vec<Value>,
+    /// All that slots were given, the newest one last.
+    given: Vec<Given>,
     /// The held slots, the newest one last.
-    chain: Vec<Slot>,
+    pub(crate) chain: Vec<Slot>,
+    /// Whether each cell was counted where it was used, and each token there where it was spent, and no token was lost.
+    pub(crate) is_sound: bool,
 }
 
 impl Heap {
     /// No cell yet.
-    pub(crate) fn new(alloc: Global, room: usize) -> Self {
+    pub(crate) fn new(alloc: Global, room: u32) -> Self {
         Heap {
             alloc,
-            room,
+            free: room,
             cells: Vec::new(alloc),
-            counted: 0,
-            kept: Vec::new(alloc),
+            fields: Vec::new(alloc),
+            given: Vec::new(alloc),
             chain: Vec::new(alloc),
+            is_sound: true,
         }
     }
 
-    /// How many cells are free.
-    pub(crate) fn free_cells(&self) -> usize {
-        self.room
-            .saturating_sub(self.counted)
-            .saturating_sub(self.tokens())
-    }
-
-    /// The held slots, the newest one last.
-    pub(crate) fn chain(&self) -> &[Slot] {
-        &self.chain
-    }
-
-    /// How many cells are tokens.
-    pub(crate) fn tokens(&self) -> usize {
-        let mut tokens: usize = 0;
-        for kept in &self.kept {
-            if matches!(kept.token, Token::Cell(_)) {
-                tokens = tokens.saturating_add(1);
-            }
+    /// A cell.
+    pub(crate) fn cell(&self, name: usize) -> Cell {
+        match self.cells.get(name) {
+            Some(cell) => *cell,
+            None => NO_CELL,
         }
-        tokens
     }
 
-    /// The counted cell of a value, if it is one.
-    pub(crate) fn cell(&self, value: Value) -> Option<&Cell> {
-        let Value::Place(name) = value else {
-            return None;
-        };
-        let cell = self.cells.get(name)?;
-        if cell.count == 0 { None } else { Some(cell) }
-    }
-
-    /// A copy of the fields of the counted cell of a value, which this constructor has made with so many fields.
-    pub(crate) fn fields(
-        &self,
-        value: Value,
-        made_by: u32,
-        count: usize,
-    ) -> Result<Vec<Value>, Fail> {
-        let cell = self.cell(value).ok_or("no cell is opened")?;
-        if (cell.made_by != made_by) | (cell.fields.len() != count) {
-            return Err(Fail::new("another cell is opened"));
+    /// A field of a cell, `()` where it has none there.
+    pub(crate) fn field(&self, name: usize, position: u32) -> Value {
+        let cell = self.cell(name);
+        match self
+            .fields
+            .get(cell.first.saturating_add(position as usize))
+        {
+            Some(field) if position < cell.length => *field,
+            _ => Value::Unit,
         }
-        let fields = Vec::from_slice(self.alloc, &cell.fields)?;
-        Ok(fields)
+    }
+
+    fn set_count(&mut self, name: usize, count: u32) {
+        if let Some(cell) = self.cells.get_mut(name) {
+            cell.count = count;
+        }
     }
 
     /// A value gets a reference more.
-    pub(crate) fn dup(&mut self, value: Value) -> Result<(), Fail> {
-        let Value::Place(name) = value else {
-            return Ok(());
-        };
-        let cell = self.cells.get_mut(name).ok_or("no such cell")?;
-        if cell.count == 0 {
-            return Err(Fail::new("a free cell gets a reference"));
+    pub(crate) fn dup(&mut self, value: Value) {
+        if let Value::Place(name) = value {
+            let count = self.cell(name).count;
+            self.is_sound &= count > 0;
+            self.set_count(name, count.saturating_add(1));
         }
-        cell.count = cell.count.saturating_add(1);
-        Ok(())
+    }
+
+    /// A reference of a cell is given up, and its fields stay. Whether the cell is free then.
+    pub(crate) fn lower(&mut self, name: usize) -> bool {
+        let count = self.cell(name).count;
+        self.is_sound &= count > 0;
+        self.set_count(name, count.saturating_sub(1));
+        if count < 2 {
+            self.free = self.free.saturating_add(1);
+        }
+        count < 2
     }
 
     /// A reference of a value is given up, and so are those of the cells that are freed.
-    pub(crate) fn drop_value(&mut self, value: Value) -> Result<(), Fail> {
+    pub(crate) fn drop_value(&mut self, value: Value) -> Result<(), AllocError> {
         let mut left = Vec::new(self.alloc);
         left.push(value)?;
         for _ in 0..REFERENCES {
-            match left.pop() {
-                Some(value) => self.give_up(value, &mut left)?,
-                None => return Ok(()),
-            }
+            let Some(value) = left.pop() else {
+                return Ok(());
+            };
+            self.give_up(value, &mut left)?;
         }
-        Err(Fail::new("too many references are given up"))
+        self.is_sound = false;
+        Ok(())
     }
 
     /// One reference is given up. Those of a cell that is freed are left.
-    fn give_up(&mut self, value: Value, left: &mut Vec<Value>) -> Result<(), Fail> {
-        let Value::Place(name) = value else {
-            return Ok(());
-        };
-        if self.lower(name)? == 0 {
-            let cell = self.cells.get(name).ok_or("no such cell")?;
-            left.extend_from_slice(&cell.fields)?;
+    fn give_up(&mut self, value: Value, left: &mut Vec<Value>) -> Result<(), AllocError> {
+        if let Value::Place(name) = value
+            && self.lower(name)
+        {
+            for position in 0..self.cell(name).length {
+                left.push(self.field(name, position))?;
+            }
         }
         Ok(())
     }
 
-    /// A reference of a cell is given up, and its fields stay. The count that is left.
-    pub(crate) fn lower(&mut self, name: usize) -> Result<u32, Fail> {
-        let cell = self.cells.get_mut(name).ok_or("no such cell")?;
-        if cell.count == 0 {
-            return Err(Fail::new("a free cell is given up"));
-        }
-        cell.count = cell.count.saturating_sub(1);
-        let left = cell.count;
-        if left == 0 {
-            self.counted = self.counted.saturating_sub(1);
-        }
-        Ok(left)
-    }
-
-    /// A new cell with one reference, in the room that there is.
-    pub(crate) fn make(&mut self, made_by: u32, fields: Vec<Value>) -> Result<Value, Fail> {
+    /// A new cell with one reference. In the cell of a token the fields at the kept positions stay.
+    pub(crate) fn make(
+        &mut self,
+        made_by: u32,
+        values: &[Value],
+        token: Option<usize>,
+        kept: &[u32],
+    ) -> Result<Value, AllocError> {
         let name = self.cells.len();
+        let first = self.fields.len();
+        let mut length = 0;
+        for (position, value) in (0..FIELDS).zip(values) {
+            let field = self.kept_field(token, kept, position, *value);
+            self.fields.push(field)?;
+            length = position.saturating_add(1);
+        }
         self.cells.push(Cell {
             count: 1,
             made_by,
-            fields,
+            length,
+            first,
         })?;
-        self.counted = self.counted.saturating_add(1);
         Ok(Value::Place(name))
+    }
+
+    /// The field of a token's cell, where its position is kept, and else the value.
+    fn kept_field(&self, token: Option<usize>, kept: &[u32], position: u32, value: Value) -> Value {
+        match token {
+            Some(name) if kept.contains(&position) => self.field(name, position),
+            _ => value,
+        }
     }
 
     /// Whether there is room for a cell. A free one comes first, then the first token of the frame's slots, then the newest held
     /// one. A token that is taken leaves its slot null.
-    pub(crate) fn request(&mut self, frame: usize, slots: &[u32]) -> Result<bool, Fail> {
-        if self.free_cells() > 0 {
+    pub(crate) fn request(&mut self, frame: u32, slots: &[u32]) -> Result<bool, AllocError> {
+        if self.free > 0 {
+            self.free = self.free.saturating_sub(1);
             return Ok(true);
         }
         for number in slots {
-            let slot = Slot {
-                frame,
-                number: *number,
-            };
-            if self.has_cell(slot) {
-                self.set(slot, Token::Null)?;
+            let number = *number;
+            if self.take(Slot { frame, number })? {
                 return Ok(true);
             }
         }
-        let Some(slot) = self.chain.pop() else {
-            return Ok(false);
-        };
-        if !self.has_cell(slot) {
-            return Err(Fail::new("a held slot has no token"));
+        match self.chain.pop() {
+            Some(slot) => self.take(slot),
+            None => Ok(false),
         }
-        self.set(slot, Token::Null)?;
-        Ok(true)
+    }
+
+    /// Whether a slot has the token of a cell. The cell is taken, and the slot is null.
+    fn take(&mut self, slot: Slot) -> Result<bool, AllocError> {
+        let takes = self.has_cell(slot);
+        if takes {
+            self.give(slot, Token::Null)?;
+        }
+        Ok(takes)
+    }
+
+    /// What a slot has.
+    fn token(&self, slot: Slot) -> Token {
+        for given in self.given.iter().rev() {
+            if slot.is(given.slot) {
+                return given.token;
+            }
+        }
+        Token::Spent
+    }
+
+    fn give(&mut self, slot: Slot, token: Token) -> Result<(), AllocError> {
+        self.given.push(Given { slot, token })?;
+        Ok(())
     }
 
     /// Whether a slot has the token of a cell.
@@ -218,71 +250,59 @@ impl Heap {
         matches!(self.token(slot), Token::Cell(_))
     }
 
-    /// What a slot has.
-    fn token(&self, slot: Slot) -> Token {
-        for kept in &self.kept {
-            if kept.slot == slot {
-                return kept.token;
-            }
-        }
-        Token::Spent
-    }
-
-    /// A slot is given a token, or is spent.
-    fn set(&mut self, slot: Slot, token: Token) -> Result<(), Fail> {
-        for kept in &mut self.kept {
-            if kept.slot == slot {
-                kept.token = token;
-                return Ok(());
-            }
-        }
-        self.kept.push(Kept { slot, token })?;
-        Ok(())
-    }
-
     /// A spent slot gets the token of a cell, or is null.
-    pub(crate) fn gain(&mut self, slot: Slot, name: Option<usize>) -> Result<(), Fail> {
-        match (self.token(slot), name) {
-            (Token::Spent, Some(name)) => self.set(slot, Token::Cell(name)),
-            (Token::Spent, None) => self.set(slot, Token::Null),
-            _ => Err(Fail::new("a token is lost")),
+    pub(crate) fn gain(&mut self, slot: Slot, name: Option<usize>) -> Result<(), AllocError> {
+        self.is_sound &= matches!(self.token(slot), Token::Spent);
+        match name {
+            Some(name) => self.give(slot, Token::Cell(name)),
+            None => self.give(slot, Token::Null),
         }
     }
 
-    /// The cell of a slot that has a token; none where it is null.
-    pub(crate) fn cell_of(&self, slot: Slot) -> Result<Option<usize>, Fail> {
-        match self.token(slot) {
-            Token::Spent => Err(Fail::new("a token is spent twice")),
-            Token::Null => Ok(None),
-            Token::Cell(name) => Ok(Some(name)),
+    /// A spent slot gets a cell that was opened, if it is free.
+    pub(crate) fn gain_opened(&mut self, slot: Slot, name: usize) -> Result<(), AllocError> {
+        if self.cell(name).count > 0 {
+            return self.gain(slot, None);
         }
+        self.free = self.free.saturating_sub(1);
+        self.gain(slot, Some(name))
     }
 
     /// The slot is spent. The cell that it had, if it was not null.
-    pub(crate) fn spend(&mut self, slot: Slot) -> Result<Option<usize>, Fail> {
-        let name = self.cell_of(slot)?;
-        self.set(slot, Token::Spent)?;
-        Ok(name)
+    pub(crate) fn spend(&mut self, slot: Slot) -> Result<Option<usize>, AllocError> {
+        let token = self.token(slot);
+        self.give(slot, Token::Spent)?;
+        match token {
+            Token::Cell(name) => Ok(Some(name)),
+            Token::Null => Ok(None),
+            Token::Spent => {
+                self.is_sound = false;
+                Ok(None)
+            }
+        }
+    }
+
+    /// The slot is spent, and the cell that it had is free.
+    pub(crate) fn free_token(&mut self, slot: Slot) -> Result<(), AllocError> {
+        if self.spend(slot)?.is_some() {
+            self.free = self.free.saturating_add(1);
+        }
+        Ok(())
     }
 
     /// The token of a slot is put on the chain, if it is not null.
-    pub(crate) fn hold(&mut self, slot: Slot) -> Result<(), Fail> {
-        if self.cell_of(slot)?.is_some() {
-            for other in &self.chain {
-                if *other == slot {
-                    return Err(Fail::new("a token is held twice"));
-                }
-            }
+    pub(crate) fn hold(&mut self, slot: Slot) -> Result<(), AllocError> {
+        if self.has_cell(slot) {
             self.chain.push(slot)?;
         }
         Ok(())
     }
 
     /// The token of a slot, if it is still there, is taken off the top of the chain.
-    pub(crate) fn unhold(&mut self, slot: Slot) -> Result<(), Fail> {
-        if self.cell_of(slot)?.is_some() && self.chain.pop() != Some(slot) {
-            return Err(Fail::new("another token is the newest"));
+    pub(crate) fn unhold(&mut self, slot: Slot) {
+        if self.has_cell(slot) {
+            let newest = self.chain.pop();
+            self.is_sound &= matches!(newest, Some(newest) if newest.is(slot));
         }
-        Ok(())
     }
 }

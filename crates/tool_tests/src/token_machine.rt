@@ -1,12 +1,11 @@
 //! A slow and plain machine for code with tokens.
 
-use crate::token_heap::{Heap, Slot, Value};
+use crate::token_heap::{FIELDS, Heap, Slot, Value};
 use kk_core::{Answer, Decisions, Edge, Node};
-use kk_counted::{Tokened, TokenedBlock, TokenedLast, TokenedStep};
+use kk_counted::{Tokened, TokenedBlock, TokenedFun, TokenedLast, TokenedStep};
 use kk_syntax::{BinaryOperator, Form, PrintForm, Program};
 use rv_sim::Halt;
-use std::alloc::Global;
-use std::test::Fail;
+use std::alloc::{AllocError, Global};
 
 /// How an image ends.
 pub(crate) const ENDED: Halt = Halt::Exit(0);
@@ -25,15 +24,15 @@ struct Code<'a> {
 /// What waits for a value: what is left of a block behind the one inside it, or of a function that has called.
 #[derive(Clone, Copy)]
 struct Wait<'a> {
+    frame: u32,
     variable: u32,
     code: Code<'a>,
-    /// Of a function that has called, where its bindings begin.
-    caller: Option<usize>,
 }
 
-/// A variable and its value.
+/// A variable of a function's frame and its value.
 #[derive(Clone, Copy)]
 struct Bound {
+    frame: u32,
     variable: u32,
     value: Value,
 }
@@ -43,17 +42,18 @@ struct Bound {
 pub(crate) struct TokenMachine<'a> {
     alloc: Global,
     program: &'a Tokened,
-    depth: usize,
+    depth: u32,
     code: Code<'a>,
     /// The newest is the last.
     waits: Vec<Wait<'a>>,
     /// How many functions wait.
-    frame: usize,
-    /// The bindings of the functions, of which those of the running one begin at `base`.
-    bindings: Vec<Bound>,
-    base: usize,
+    frame: u32,
+    /// All that was bound, the newest one last.
+    bound: Vec<Bound>,
     pub(crate) heap: Heap,
     pub(crate) output: Vec<u8>,
+    /// How the run has ended, if it has.
+    pub(crate) end: Option<Halt>,
 }
 
 /// The whole of a block.
@@ -69,22 +69,22 @@ impl<'a> TokenMachine<'a> {
     pub(crate) fn new(
         alloc: Global,
         program: &'a Tokened,
+        main: &'a TokenedFun,
         cells: u32,
         depth: u32,
-    ) -> Result<Self, Fail> {
-        let main = program.functions.first().ok_or("no function is there")?;
-        Ok(TokenMachine {
+    ) -> Self {
+        TokenMachine {
             alloc,
             program,
-            depth: depth as usize,
+            depth,
             code: code_of(&main.body),
             waits: Vec::new(alloc),
             frame: 0,
-            bindings: Vec::new(alloc),
-            base: 0,
-            heap: Heap::new(alloc, cells as usize),
+            bound: Vec::new(alloc),
+            heap: Heap::new(alloc, cells),
             output: Vec::new(alloc),
-        })
+            end: None,
+        }
     }
 
     /// The form that comes next.
@@ -126,13 +126,21 @@ impl<'a> TokenMachine<'a> {
         }
     }
 
+    /// A slot of the running function.
+    fn slot(&self, number: u32) -> Slot {
+        Slot {
+            frame: self.frame,
+            number,
+        }
+    }
+
     /// Whether a slot of the running function has a cell.
     fn has_cell(&self, slot: u32) -> bool {
         self.heap.has_cell(self.slot(slot))
     }
 
-    /// One step. How the run has ended, if it has.
-    pub(crate) fn step(&mut self) -> Result<Option<Halt>, Fail> {
+    /// One step.
+    pub(crate) fn step(&mut self) -> Result<(), AllocError> {
         match self.code.steps.split_first() {
             Some((step, rest)) => {
                 self.code.steps = rest;
@@ -143,12 +151,12 @@ impl<'a> TokenMachine<'a> {
     }
 
     /// A step of a block.
-    fn take(&mut self, step: &'a TokenedStep) -> Result<Option<Halt>, Fail> {
+    fn take(&mut self, step: &'a TokenedStep) -> Result<(), AllocError> {
         match step {
             TokenedStep::Inside { variable, block } => {
-                self.wait(*variable, None)?;
+                self.wait(*variable)?;
                 self.code = code_of(block);
-                Ok(None)
+                Ok(())
             }
             TokenedStep::Let {
                 form,
@@ -156,8 +164,8 @@ impl<'a> TokenMachine<'a> {
                 variable,
                 others,
             } => {
-                let values = self.values_of(arguments)?;
-                self.compute(*variable, *form, values, others)
+                let values = self.values_of(&[], arguments)?;
+                self.compute(*variable, *form, &values, others)
             }
             TokenedStep::Fill {
                 first,
@@ -168,29 +176,25 @@ impl<'a> TokenMachine<'a> {
                 kept,
                 others,
             } => {
-                let mut values = self.values_of(&[*first])?;
-                let more = self.values_of(arguments)?;
-                values.extend_from_slice(&more)?;
-                self.fill(*variable, *slot, *constructor, values, kept, others)
+                let slot = self.slot(*slot);
+                let token = self.heap.spend(slot)?;
+                let values = self.values_of(&[*first], arguments)?;
+                self.construct(*variable, *constructor, &values, token, kept, others)
             }
-            _ => {
-                self.take_cells(step)?;
-                Ok(None)
-            }
+            _ => self.take_cells(step),
         }
     }
 
     /// A step that changes cells or tokens and makes no cell.
-    fn take_cells(&mut self, step: &TokenedStep) -> Result<(), Fail> {
+    fn take_cells(&mut self, step: &TokenedStep) -> Result<(), AllocError> {
         match step {
             TokenedStep::Read {
                 variable,
                 constructor,
                 fields,
             } => {
-                let value = self.value_of(*variable);
-                let values = self.heap.fields(value, *constructor, fields.len())?;
-                self.bind_all(fields, &values)
+                self.read(*variable, *constructor, fields)?;
+                Ok(())
             }
             TokenedStep::Open {
                 slot,
@@ -198,33 +202,44 @@ impl<'a> TokenMachine<'a> {
                 constructor,
                 fields,
                 used,
-            } => self.open(false, *variable, *constructor, fields, used, *slot),
+            } => {
+                let slot = self.slot(*slot);
+                let name = self.read(*variable, *constructor, fields)?;
+                self.dup_all(used);
+                self.heap.drop_value(Value::Place(name))?;
+                self.heap.gain_opened(slot, name)
+            }
             TokenedStep::IfUnique {
                 variable,
                 constructor,
                 fields,
                 used,
                 slot,
-            } => self.open(true, *variable, *constructor, fields, used, *slot),
-            TokenedStep::Dup { variable } => {
-                let value = self.value_of(*variable);
-                self.heap.dup(value)
-            }
-            TokenedStep::Drop { variable } => {
-                let value = self.value_of(*variable);
-                self.heap.drop_value(value)
+            } => {
+                let slot = self.slot(*slot);
+                let name = self.read(*variable, *constructor, fields)?;
+                self.give_away(name, fields, used)?;
+                self.heap.gain_opened(slot, name)
             }
             _ => self.take_tokens(step),
         }
     }
 
-    /// A step that changes tokens alone.
-    fn take_tokens(&mut self, step: &TokenedStep) -> Result<(), Fail> {
+    /// A step that changes counts or tokens alone.
+    fn take_tokens(&mut self, step: &TokenedStep) -> Result<(), AllocError> {
         match step {
+            TokenedStep::Dup { variable } => {
+                let value = self.value_of(*variable);
+                self.heap.dup(value);
+                Ok(())
+            }
+            TokenedStep::Drop { variable } => {
+                let value = self.value_of(*variable);
+                self.heap.drop_value(value)
+            }
             TokenedStep::Free { slot } => {
                 let slot = self.slot(*slot);
-                self.heap.spend(slot)?;
-                Ok(())
+                self.heap.free_token(slot)
             }
             TokenedStep::Null { slot } => {
                 let slot = self.slot(*slot);
@@ -241,119 +256,92 @@ impl<'a> TokenMachine<'a> {
             }
             TokenedStep::Unhold { slot } => {
                 let slot = self.slot(*slot);
-                self.heap.unhold(slot)
+                self.heap.unhold(slot);
+                Ok(())
             }
-            _ => Err(Fail::new("no step of tokens")),
-        }
-    }
-
-    /// A slot of the running function.
-    fn slot(&self, number: u32) -> Slot {
-        Slot {
-            frame: self.frame,
-            number,
+            _ => Ok(()),
         }
     }
 
     /// What a variable of the running function stands for.
     fn value_of(&self, variable: u32) -> Value {
-        for bound in self.bindings.iter().rev() {
-            if bound.variable == variable {
+        for bound in self.bound.iter().rev() {
+            if (bound.frame == self.frame) & (bound.variable == variable) {
                 return bound.value;
             }
         }
         Value::Unit
     }
 
-    fn values_of(&self, variables: &[u32]) -> Result<Vec<Value>, Fail> {
+    /// What the first variables and the others stand for.
+    fn values_of(&self, first: &[u32], others: &[u32]) -> Result<Vec<Value>, AllocError> {
         let mut values = Vec::new(self.alloc);
-        for variable in variables {
+        for variable in first {
+            values.push(self.value_of(*variable))?;
+        }
+        for variable in others {
             values.push(self.value_of(*variable))?;
         }
         Ok(values)
     }
 
-    fn bind(&mut self, variable: u32, value: Value) -> Result<(), Fail> {
-        self.bindings.push(Bound { variable, value })?;
-        Ok(())
-    }
-
-    fn bind_all(&mut self, variables: &[u32], values: &[Value]) -> Result<(), Fail> {
-        for (variable, value) in variables.iter().zip(values) {
-            self.bind(*variable, *value)?;
-        }
-        Ok(())
-    }
-
-    /// What is left of the block waits for a value.
-    fn wait(&mut self, variable: u32, caller: Option<usize>) -> Result<(), Fail> {
-        self.waits.push(Wait {
+    fn bind(&mut self, variable: u32, value: Value) -> Result<(), AllocError> {
+        self.bound.push(Bound {
+            frame: self.frame,
             variable,
-            code: self.code,
-            caller,
+            value,
         })?;
         Ok(())
     }
 
-    /// A cell is opened, by its count or not, and the slot takes it if it is free then.
-    fn open(
-        &mut self,
-        by_count: bool,
-        variable: u32,
-        constructor: u32,
-        fields: &[u32],
-        used: &[u32],
-        slot: u32,
-    ) -> Result<(), Fail> {
-        let value = self.value_of(variable);
-        let values = self.heap.fields(value, constructor, fields.len())?;
-        let mut opened = Vec::new(self.alloc);
-        for (field, value) in fields.iter().zip(&values) {
-            opened.push((*value, used.contains(field)))?;
-        }
-        if by_count {
-            self.give_away(value, &opened)?;
-        } else {
-            self.give_more(value, &opened)?;
-        }
-        self.gain_opened(value, slot)?;
-        self.bind_all(fields, &values)
-    }
-
-    /// The used fields of a cell get a reference more, and one of the cell is given up.
-    fn give_more(&mut self, value: Value, fields: &[(Value, bool)]) -> Result<(), Fail> {
-        for (field, is_used) in fields {
-            if *is_used {
-                self.heap.dup(*field)?;
-            }
-        }
-        self.heap.drop_value(value)
-    }
-
-    /// A cell with one reference gives the used fields away, and the others are given up.
-    fn give_away(&mut self, value: Value, fields: &[(Value, bool)]) -> Result<(), Fail> {
-        let Value::Place(name) = value else {
-            return Err(Fail::new("no cell is opened"));
-        };
-        let left = self.heap.lower(name)?;
-        for (field, is_used) in fields {
-            match (left, *is_used) {
-                (0, false) => self.heap.drop_value(*field)?,
-                (0, true) | (_, false) => {}
-                (_, true) => self.heap.dup(*field)?,
-            }
-        }
+    /// What is left of the block waits for a value.
+    fn wait(&mut self, variable: u32) -> Result<(), AllocError> {
+        self.waits.push(Wait {
+            frame: self.frame,
+            variable,
+            code: self.code,
+        })?;
         Ok(())
     }
 
-    /// The slot takes a cell that was opened, if it is free.
-    fn gain_opened(&mut self, value: Value, slot: u32) -> Result<(), Fail> {
-        let free = match value {
-            Value::Place(name) if self.heap.cell(value).is_none() => Some(name),
-            _ => None,
-        };
-        let slot = self.slot(slot);
-        self.heap.gain(slot, free)
+    /// The fields of the cell of a variable, which this constructor has made, are bound. The name of the cell.
+    fn read(
+        &mut self,
+        variable: u32,
+        constructor: u32,
+        fields: &[u32],
+    ) -> Result<usize, AllocError> {
+        let name = name_of(self.value_of(variable));
+        let cell = self.heap.cell(name);
+        let is_its = (cell.count > 0) & (cell.made_by == constructor);
+        self.heap.is_sound &= is_its & (cell.length as usize == fields.len());
+        for (position, field) in (0..FIELDS).zip(fields) {
+            let value = self.heap.field(name, position);
+            self.bind(*field, value)?;
+        }
+        Ok(name)
+    }
+
+    fn dup_all(&mut self, variables: &[u32]) {
+        for variable in variables {
+            let value = self.value_of(*variable);
+            self.heap.dup(value);
+        }
+    }
+
+    /// A reference of a cell is given up. Where it was the only one, the used fields are given away, and the others are given up.
+    fn give_away(&mut self, name: usize, fields: &[u32], used: &[u32]) -> Result<(), AllocError> {
+        if !self.heap.lower(name) {
+            self.dup_all(used);
+            return Ok(());
+        }
+        for field in fields {
+            if !used.contains(field) {
+                let value = self.value_of(*field);
+                self.heap.drop_value(value)?;
+            }
+        }
+        Ok(())
     }
 
     /// A form on values, whose value the variable takes.
@@ -361,149 +349,119 @@ impl<'a> TokenMachine<'a> {
         &mut self,
         variable: u32,
         form: Form,
-        values: Vec<Value>,
+        values: &[Value],
         others: &[u32],
-    ) -> Result<Option<Halt>, Fail> {
-        let value = match form {
-            Form::Call(function) => return self.call(variable, function, &values),
+    ) -> Result<(), AllocError> {
+        match form {
+            Form::Call(function) => self.call(variable, function, values),
             Form::Construct(constructor) if !values.is_empty() => {
-                return self.construct(variable, constructor, values, others);
+                self.construct(variable, constructor, values, None, &[], others)
             }
-            Form::Construct(constructor) => Value::Constant(constructor),
-            Form::Number(number) => Value::Integer(number),
-            Form::Unit => Value::Unit,
-            Form::Print(PrintForm::PrintLine) => self.print_line(integer(&values, 0))?,
-            Form::Binary(operator) => binary(operator, integer(&values, 0), integer(&values, 1))?,
-            _ => return Err(Fail::new("no program has such a form")),
-        };
-        self.bind(variable, value)?;
-        Ok(None)
+            Form::Print(PrintForm::PrintLine) => {
+                self.print_line(integer(values, 0))?;
+                self.bind(variable, Value::Unit)
+            }
+            _ => self.bind(variable, computed(form, values)),
+        }
     }
 
-    fn print_line(&mut self, number: i32) -> Result<Value, Fail> {
+    fn print_line(&mut self, number: i32) -> Result<(), AllocError> {
         let line = format!(in self.alloc; "{number}\n")?;
         self.output.extend_from_slice(line.as_bytes())?;
-        Ok(Value::Unit)
+        Ok(())
     }
 
-    /// A construction with fields.
+    /// A construction with fields, in the cell of a token if there is one. There the fields at the kept positions stay.
     fn construct(
         &mut self,
         variable: u32,
         constructor: u32,
-        values: Vec<Value>,
-        others: &[u32],
-    ) -> Result<Option<Halt>, Fail> {
-        if !self.heap.request(self.frame, others)? {
-            return Ok(Some(HEAP_FULL));
-        }
-        let value = self.heap.make(constructor, values)?;
-        self.bind(variable, value)?;
-        Ok(None)
-    }
-
-    /// A construction in the cell of a token, of which the fields at the kept positions stay.
-    fn fill(
-        &mut self,
-        variable: u32,
-        slot: u32,
-        constructor: u32,
-        values: Vec<Value>,
+        values: &[Value],
+        token: Option<usize>,
         kept: &[u32],
         others: &[u32],
-    ) -> Result<Option<Halt>, Fail> {
-        let slot = self.slot(slot);
-        let Some(name) = self.heap.spend(slot)? else {
-            return self.construct(variable, constructor, values, others);
-        };
-        let token = self.heap.cells.get(name).ok_or("no such token")?;
-        let mut fields = Vec::new(self.alloc);
-        for (i, value) in values.iter().enumerate() {
-            let old = token.fields.get(i);
-            match old {
-                Some(old) if is_among(kept, i) => fields.push(*old)?,
-                _ => fields.push(*value)?,
-            }
+    ) -> Result<(), AllocError> {
+        if token.is_none() && !self.heap.request(self.frame, others)? {
+            self.end = Some(HEAP_FULL);
+            return Ok(());
         }
-        let value = self.heap.make(constructor, fields)?;
-        self.bind(variable, value)?;
-        Ok(None)
+        let value = self.heap.make(constructor, values, token, kept)?;
+        self.bind(variable, value)
     }
 
     /// A call, whose value the variable takes.
-    fn call(
-        &mut self,
-        variable: u32,
-        function: u32,
-        values: &[Value],
-    ) -> Result<Option<Halt>, Fail> {
+    fn call(&mut self, variable: u32, function: u32, values: &[Value]) -> Result<(), AllocError> {
         let frame = self.frame.saturating_add(1);
         if self.depth <= frame {
-            return Ok(Some(STACK_FULL));
+            self.end = Some(STACK_FULL);
+            return Ok(());
         }
-        self.wait(variable, Some(self.base))?;
+        self.wait(variable)?;
         self.frame = frame;
-        self.base = self.bindings.len();
         self.enter(function, values)
     }
 
     /// The body of a function comes.
-    fn enter(&mut self, function: u32, values: &[Value]) -> Result<Option<Halt>, Fail> {
-        let functions = &self.program.functions;
-        let function = functions.get(function as usize).ok_or("no such function")?;
-        self.code = code_of(&function.body);
-        for (parameter, value) in (0..function.parameters).zip(values) {
+    fn enter(&mut self, function: u32, values: &[Value]) -> Result<(), AllocError> {
+        for (parameter, value) in (0..FIELDS).zip(values) {
             self.bind(parameter, *value)?;
         }
-        Ok(None)
+        match self.program.functions.get(function as usize) {
+            Some(function) => self.code = code_of(&function.body),
+            None => self.heap.is_sound = false,
+        }
+        Ok(())
     }
 
     /// The end of a block.
-    fn finish(&mut self) -> Result<Option<Halt>, Fail> {
+    fn finish(&mut self) -> Result<(), AllocError> {
         match self.code.last {
             TokenedLast::Return(variable) => self.give(self.value_of(*variable)),
             TokenedLast::TailCall(function, arguments) => {
-                let values = self.values_of(arguments)?;
-                self.bindings.truncate(self.base);
+                let values = self.values_of(&[], arguments)?;
                 self.enter(*function, &values)
             }
             TokenedLast::Case(variable, decisions, arms) => {
-                let row = chosen(&self.heap, self.value_of(*variable), decisions)?;
-                let arm = arms.get(row as usize).ok_or("no such arm")?;
-                self.code = code_of(arm);
-                Ok(None)
+                self.choose(self.value_of(*variable), decisions, arms);
+                Ok(())
             }
             TokenedLast::IfToken(slot, there, absent) => {
-                let is_there = self.heap.cell_of(self.slot(*slot))?.is_some();
-                self.code = code_of(if is_there { there } else { absent });
-                Ok(None)
+                self.code = code_of(if self.has_cell(*slot) { there } else { absent });
+                Ok(())
             }
         }
     }
 
     /// What waits takes a value.
-    fn give(&mut self, value: Value) -> Result<Option<Halt>, Fail> {
-        let Some(wait) = self.waits.pop() else {
-            return Ok(Some(ENDED));
-        };
-        if let Some(base) = wait.caller {
-            self.bindings.truncate(self.base);
-            self.base = base;
-            self.frame = self.frame.saturating_sub(1);
+    fn give(&mut self, value: Value) -> Result<(), AllocError> {
+        match self.waits.pop() {
+            Some(wait) => {
+                self.frame = wait.frame;
+                self.code = wait.code;
+                self.bind(wait.variable, value)
+            }
+            None => {
+                self.end = Some(ENDED);
+                Ok(())
+            }
         }
-        self.code = wait.code;
-        self.bind(wait.variable, value)?;
-        Ok(None)
+    }
+
+    /// The arm of the row that decisions choose for a value comes.
+    fn choose(&mut self, value: Value, decisions: &Decisions, arms: &'a [TokenedBlock]) {
+        match chosen(&self.heap, value, decisions, arms) {
+            Some(arm) => self.code = code_of(arm),
+            None => self.heap.is_sound = false,
+        }
     }
 }
 
-fn is_among(positions: &[u32], position: usize) -> bool {
-    for other in positions {
-        if *other as usize == position {
-            return true;
-        }
+/// The name of a cell. Where the value is none, no cell has that name.
+fn name_of(value: Value) -> usize {
+    match value {
+        Value::Place(name) => name,
+        _ => usize::MAX,
     }
-    false
 }
 
 /// An argument as a number.
@@ -514,52 +472,72 @@ fn integer(values: &[Value], index: usize) -> i32 {
     }
 }
 
+/// The value of a form that makes no cell and calls and prints nothing.
+fn computed(form: Form, values: &[Value]) -> Value {
+    match form {
+        Form::Construct(constructor) => Value::Constant(constructor),
+        Form::Number(number) => Value::Integer(number),
+        Form::Binary(operator) => binary(operator, integer(values, 0), integer(values, 1)),
+        _ => Value::Unit,
+    }
+}
+
 fn truth(holds: bool) -> Value {
     Value::Constant(if holds { Program::TRUE } else { Program::FALSE })
 }
 
-fn binary(operator: BinaryOperator, x: i32, y: i32) -> Result<Value, Fail> {
+fn binary(operator: BinaryOperator, x: i32, y: i32) -> Value {
     match operator {
-        BinaryOperator::Add => Ok(Value::Integer(x.wrapping_add(y))),
-        BinaryOperator::Subtract => Ok(Value::Integer(x.wrapping_sub(y))),
-        BinaryOperator::Multiply => Ok(Value::Integer(x.wrapping_mul(y))),
-        BinaryOperator::Remainder if y != 0 => Ok(Value::Integer(x.wrapping_rem(y))),
-        BinaryOperator::Equal => Ok(truth(x == y)),
-        BinaryOperator::Less => Ok(truth(x < y)),
-        _ => Err(Fail::new("no program has such an operator")),
+        BinaryOperator::Add => Value::Integer(x.wrapping_add(y)),
+        BinaryOperator::Subtract => Value::Integer(x.wrapping_sub(y)),
+        BinaryOperator::Multiply => Value::Integer(x.wrapping_mul(y)),
+        BinaryOperator::Remainder if y != 0 => Value::Integer(x.wrapping_rem(y)),
+        BinaryOperator::Equal => truth(x == y),
+        BinaryOperator::Less => truth(x < y),
+        _ => Value::Unit,
     }
 }
 
-/// The row that decisions choose for a value.
-fn chosen(heap: &Heap, value: Value, decisions: &Decisions) -> Result<u32, Fail> {
+/// The arm of the row that decisions choose for a value.
+fn chosen<'b>(
+    heap: &Heap,
+    value: Value,
+    decisions: &Decisions,
+    arms: &'b [TokenedBlock],
+) -> Option<&'b TokenedBlock> {
     let nodes = decisions.nodes();
     let mut next: u32 = 0;
-    for _ in 0..nodes.len() {
-        match nodes.get(next as usize).ok_or("no such node")? {
-            Node::Choose(row) => return Ok(*row),
+    for _ in nodes {
+        match nodes.get(next as usize)? {
+            Node::Choose(row) => return arms.get(*row as usize),
             Node::Test(way, edges, otherwise) => {
-                let found = found_at(heap, value, way)?;
-                next = behind(edges, *otherwise, found).ok_or("no row is chosen")?;
+                next = behind(edges, *otherwise, found_at(heap, value, way)?)?;
             }
         }
     }
-    Err(Fail::new("no row is chosen"))
+    None
 }
 
-/// What stands at a position of a value.
-fn found_at(heap: &Heap, value: Value, way: &[u32]) -> Result<Answer, Fail> {
+/// What stands at a position of a value, through counted cells.
+fn found_at(heap: &Heap, value: Value, way: &[u32]) -> Option<Answer> {
     let mut at = value;
     for field in way {
-        let cell = heap.cell(at).ok_or("no cell is tested")?;
-        at = *cell.fields.get(*field as usize).ok_or("no such field")?;
+        if heap.cell(name_of(at)).count == 0 {
+            return None;
+        }
+        at = heap.field(name_of(at), *field);
     }
     match at {
-        Value::Integer(number) => Ok(Answer::Number(number)),
-        Value::Unit => Err(Fail::new("`()` is tested")),
-        Value::Constant(constructor) => Ok(Answer::Constructor(constructor)),
-        Value::Place(_) => {
-            let cell = heap.cell(at).ok_or("a free cell is tested")?;
-            Ok(Answer::Constructor(cell.made_by))
+        Value::Integer(number) => Some(Answer::Number(number)),
+        Value::Unit => None,
+        Value::Constant(constructor) => Some(Answer::Constructor(constructor)),
+        Value::Place(name) => {
+            let cell = heap.cell(name);
+            if cell.count == 0 {
+                None
+            } else {
+                Some(Answer::Constructor(cell.made_by))
+            }
         }
     }
 }
