@@ -1,21 +1,17 @@
 -- Code that runs a block last and gives its value has the judgements that it needs where the block ends it instead.
-use Rattle.std.proofs.Common.{◌≡◌, ℕ, ◌+◌, ◌<◌, ◌==◌, ◌&&◌, Bool, true, false, List, [], ◌∷◌, ◌++◌, map, length, Option, Some, None, arith, refl, sym, ap, ◌∙◌, subst}
-use Rattle.std.specs.Prelude.{if◌then◌else◌, filter}
-use Rattle.std.proofs.lemmas.List.{map-append}
+use Rattle.std.proofs.Common.{◌≡◌, ℕ, ◌+◌, Bool, List, [], ◌∷◌, ◌++◌, Some, None, arith, refl, subst}
+use Rattle.std.specs.Prelude.{filter}
 use Rattle.kk_syntax.specs.Shapes.{is_among}
 use Rattle.kk_syntax.specs.PositionsOf.{PositionTable}
-use Rattle.kk_counted.specs.declared.form.Block.{Block}
-use Rattle.kk_counted.specs.declared.form.Step.{Step}
 use Rattle.kk_counted.specs.Arms.{HasArms}
 use Rattle.kk_counted.specs.CountedCodes.{Counted, give, inside, CountedFunction}
-use Rattle.kk_counted.specs.CountedForms.{Move, computes, runs, reads, opens, opens_unique, dups, drops, put, plug, block_code, last_code, step_move}
+use Rattle.kk_counted.specs.CountedForms.{Move, computes, runs, reads, opens, opens_unique, dups, drops, put}
 use Rattle.kk_counted.specs.Marks.{CellMarks, result_mark, HasMark, CanBeMarked}
 use Rattle.kk_counted.specs.Spending.{total, AreEven, Spends, numbers_from}
-use Rattle.kk_emitter.specs.Drafts.{Draft, end_code, is_branch, branch_into, given_behind, closed_steps, closed_by}
+use Rattle.kk_emitter.specs.Drafts.{Draft}
 use Rattle.kk_emitter.specs.Emitting.{IsBody}
 use Rattle.kk_counted.proofs.CountChanges.{same}
-use Rattle.kk_counted.proofs.FormViews.{block_is}
-use Rattle.kk_emitter.proofs.OwnershipSteps.{in_tail, spends_even, spends_readable, plug_append}
+use Rattle.kk_emitter.proofs.OwnershipSteps.{in_tail, spends_even, spends_readable}
 
 -- a code, and the same where a block ends it whose value it gives
 pub data Ends : Counted → Counted → Type 0 where
@@ -112,78 +108,3 @@ marked_ends marks f parameters one two end marked = (
         marked.1.body_marked;
   },
 )
-
--- ---- the code that an emitter closes
-
-step_ends : (x : ℕ) (move : Move) → Ends (put move (give x)) (given_behind x move (branch_into x move))
-step_ends x (computes y form arguments) = stays _
-step_ends x (runs y block) = by_test (y == x) refl (is_branch block)
-  where
-    by_test : (t : Bool) → (y == x) ≡ t → (s : Bool)
-        → Ends (inside y block (give x)) (given_behind x (runs y block) (if t && s then Some block else None))
-    by_test true one true = subst (λ z. Ends (inside z block (give x)) block) (sym (same y x one)) (ends x block)
-    by_test true one false = stays _
-    by_test false one s = stays _
-step_ends x (reads y c fields) = stays _
-step_ends x (opens y c fields used) = stays _
-step_ends x (opens_unique y c fields used) = stays _
-step_ends x (dups y) = stays _
-step_ends x (drops y) = stays _
-
-steps_end : (moves : List Move) (x : ℕ) → Ends (plug moves (give x)) (closed_steps moves x)
-steps_end [] x = stays (give x)
-steps_end (move ∷ []) x = step_ends x move
-steps_end (move ∷ next ∷ moves) x = behind move _ _ (steps_end (next ∷ moves) x)
-
-pub closed_ends : (moves : List Move) (ending : Option Counted) (x : ℕ)
-    → Ends (plug moves (end_code ending x)) (closed_by moves ending x)
-closed_ends moves None x = steps_end moves x
-closed_ends moves (Some code) x = stays (plug moves code)
-
--- by the last step
-last_closed : (front : List Move) (move : Move) (x : ℕ)
-    → closed_steps (front ++ move ∷ []) x ≡ plug front (given_behind x move (branch_into x move))
-last_closed [] move x = refl
-last_closed (first ∷ []) move x = refl
-last_closed (first ∷ next ∷ front) move x = ap (put first) (last_closed (next ∷ front) move x)
-
-pub steps_closed : (front all : List Step) (step : Step) (x : ℕ) (found : Option Counted) → all ≡ front ++ step ∷ []
-    → branch_into x (step_move step) ≡ found
-    → plug (map step_move front) (given_behind x (step_move step) found) ≡ closed_steps (map step_move all) x
-steps_closed front all step x found is branch =
-    ap (λ (o : Option Counted). plug (map step_move front) (given_behind x (step_move step) o)) (sym branch)
-    ∙ (sym (last_closed (map step_move front) (step_move step) x)
-    ∙ ap (λ moves. closed_steps moves x) (sym (ap (map step_move) is ∙ map-append step_move front (step ∷ []))))
-
--- with the last step put back
-pub steps_left : (front all : List Step) (step : Step) (rest : Counted) → all ≡ front ++ step ∷ []
-    → plug (map step_move all) rest ≡ plug (map step_move front) (put (step_move step) rest)
-steps_left front all step rest is =
-    ap (λ moves. plug moves rest) (ap (map step_move) is ∙ map-append step_move front (step ∷ []))
-    ∙ plug_append (map step_move front) (step_move step ∷ []) rest
-
--- code that begins with a step is no branch
-pub no_branch : (move : Move) (rest : Counted) → is_branch (put move rest) ≡ false
-no_branch (computes x form arguments) rest = refl
-no_branch (runs x block) rest = refl
-no_branch (reads x c fields) rest = refl
-no_branch (opens x c fields used) rest = refl
-no_branch (opens_unique x c fields used) rest = refl
-no_branch (dups x) rest = refl
-no_branch (drops x) rest = refl
-
--- a block with steps is none, and one without them is its end
-pub steps_no_branch : (block : Block) → 0 < length block.steps.items → is_branch (block_code block) ≡ false
-steps_no_branch block some = ap is_branch (block_is block) ∙ by_steps block.steps.items some
-  where
-    by_steps : (steps : List Step) → 0 < length steps → is_branch (plug (map step_move steps) (last_code block.last)) ≡ false
-    by_steps [] more = absurd (omega (arith, more))
-    by_steps (step ∷ steps) more = no_branch (step_move step) (plug (map step_move steps) (last_code block.last))
-
-pub only_last : (block : Block) → (0 < length block.steps.items → ⊥) → block_code block ≡ last_code block.last
-only_last block none = block_is block ∙ by_steps block.steps.items none
-  where
-    by_steps : (steps : List Step) → (0 < length steps → ⊥)
-        → plug (map step_move steps) (last_code block.last) ≡ last_code block.last
-    by_steps [] nothing = refl
-    by_steps (step ∷ steps) nothing = absurd (nothing (omega arith))

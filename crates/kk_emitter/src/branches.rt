@@ -2,7 +2,7 @@ ghost use Rattle.std.specs.Prelude.{◌≡◌, ◌∷◌, ◌++◌, [], false, t
 ghost use Rattle.kk_syntax.specs.Shapes.{is_among};
 ghost use Rattle.kk_counted.specs.CountedCodes.{tail_call};
 ghost use Rattle.kk_counted.specs.CountedForms.{decisions_of, plug, block_code};
-ghost use Rattle.kk_emitter.specs.Drafts.{all_owed, forked, entered, ended_by_value, ended_by_call, ended_by, joined, finished, closed_body, Writes, Takes, OwnsAll, AreNewest, IsBetween, IsOnly, IsInArm, EndsByCall, EndsArm, held_of};
+ghost use Rattle.kk_emitter.specs.Drafts.{all_owed, forked, entered, ended_by_value, ended_by_call, ended_by, joined, finished, Writes, Takes, OwnsAll, AreNewest, IsBetween, IsOnly, IsInArm, EndsByCall, EndsArm, held_of};
 ghost use Rattle.kk_emitter.specs.Emissions.{state};
 ghost use Rattle.kk_emitter.specs.Emitting.{BecomesMarked, IsBody};
 ghost use Rattle.kk_counted.specs.Marks.{CanBeMarked};
@@ -32,8 +32,7 @@ impl<'a> Emitter<'a> {
         let Ok(copy) = copied_decisions(self.work.alloc, tests) else {
             return Err(Kept::of_many(debts));
         };
-        let arms = self.begin(on, copy, debts)?;
-        Ok(arms)
+        self.begin(on, copy, debts)
     }
 
     // Begins a branch by these decisions.
@@ -206,27 +205,6 @@ impl<'a> Emitter<'a> {
                 });
             }
         }
-    }
-
-    /// Ends the function by giving the value that a reference owns. No other reference of the path is unspent. Each value that a
-    /// step takes has cells exactly where the field, the parameter or the result that takes it has them. Where the last step is a
-    /// join, and the value is that of its branch, the branch itself ends the function.
-    pub fn finish(self, owed: Owed) -> Result<CountedFun, Kept>
-        requires inside { (state self).failed ≡ false → (state self).inside ≡ true }
-        requires joined { (state self).failed ≡ false → (state self).splits ≡ [] }
-        requires called { (state self).failed ≡ false → (state self).uncalled ≡ [] }
-        requires only { IsOnly (state self) owed.emitter owed.variable }
-        requires marked { BecomesMarked (state self) (finished (state self) owed.variable) }
-        ensures going { OnOk result ((state self.entry).failed ≡ false) }
-        ensures body { IfOk result (λ function. block_code function.body ≡ closed_body (state self.entry) owed.variable) }
-        ensures function { IfOk result (λ function. IsFunctionOf self.entry.positions (state self.entry).instance function) }
-        ensures marked { IfOk result (λ function. CanBeMarked self.entry.marks (state self.entry).instance (function_of function)) }
-        ensures kept { IfErr result (λ kept. kept.held ≡ Held.One owed) }
-        ensures ended { IfErr result (λ kept. kept.ended ≡ true) }
-    {
-        let variable = owed.var();
-        let work = self.end(owed)?;
-        Ok(work.finish(variable))
     }
 
     // Ends the function so, and gives what is written.

@@ -15,8 +15,8 @@ use kk_syntax::Form;
 use std::alloc::Global;
 use std::marker::Model;
 
-/// What writes the counted form of one function. All that its function owns stands in values that cannot be let go, `Owed`,
-/// `Debts` and `Arms`: so each reference is spent once on each path.
+/// What writes the counted form of one function, without tokens, beside the form with them (`TokenEmitter`). All that its function
+/// owns stands in values that cannot be let go, `Owed`, `Debts` and `Arms`: so each reference is spent once on each path.
 ///
 /// Where a call finds no memory it answers what it was handed in a `Kept`, or it has failed. An emitter that has failed asks
 /// nothing and gives no function. Its calls answer what they are handed in a `Kept` again.
@@ -104,8 +104,7 @@ impl<'a> Emitter<'a> {
         ensures owed { IfOk result (λ one. (one.emitter ≡ (state self.old).instance) × (one.variable ≡ owed.now.variable)) }
         ensures err { OnErr result (state self.new ≡ fallen (state self.old)) }
     {
-        let one = self.duplicate(owed.variable)?;
-        Ok(one)
+        self.duplicate(owed.variable)
     }
 
     /// A reference of its own of a lent parameter.
@@ -117,8 +116,7 @@ impl<'a> Emitter<'a> {
         ensures owed { IfOk result (λ one. (one.emitter ≡ (state self.old).instance) × (one.variable ≡ variable)) }
         ensures err { OnErr result (state self.new ≡ fallen (state self.old)) }
     {
-        let one = self.duplicate(variable)?;
-        Ok(one)
+        self.duplicate(variable)
     }
 
     // One reference more of a variable that is lent or owned.
@@ -258,41 +256,6 @@ impl<'a> Emitter<'a> {
                 return Ok(given);
             }
         }
-    }
-
-    /// Opens a cell of that constructor, and gives the fields that the mask names, in their order. Its lowest bit tells
-    /// whether the first field is among them. The other fields are given up with the cell's reference.
-    pub fn unpack(&mut self, owed: Owed, constructor: u32, used: u8) -> Result<Debts, Kept>
-        requires writes { Writes (state self.old) }
-        requires owns { Owns (state self.old) owed.emitter owed.variable }
-        requires constructor { HasConstructor (state self.old) constructor }
-        ensures going { OnOk result ((state self.old).failed ≡ false) }
-        ensures ok { OnOk result (state self.new ≡ unpacked (state self.old) false owed.variable constructor used) }
-        ensures debts { IfOk result (λ debts. debts.variables.items ≡ fields_given (state self.old) constructor used) }
-        ensures emitter { IfOk result (λ debts. debts.emitter ≡ (state self.old).instance) }
-        ensures spare { IfOk result (λ debts. debts.spare.items ≡ []) }
-        ensures err { OnErr result (state self.new ≡ state self.old) }
-        ensures kept { IfErr result (λ kept. kept.held ≡ Held.One owed) }
-    {
-        let debts = self.opened(owed, constructor, used, false)?;
-        Ok(debts)
-    }
-
-    /// The same by the count of the cell: one with a single reference gives the fields away that the mask names.
-    pub fn unpack_unique(&mut self, owed: Owed, constructor: u32, used: u8) -> Result<Debts, Kept>
-        requires writes { Writes (state self.old) }
-        requires owns { Owns (state self.old) owed.emitter owed.variable }
-        requires constructor { HasConstructor (state self.old) constructor }
-        ensures going { OnOk result ((state self.old).failed ≡ false) }
-        ensures ok { OnOk result (state self.new ≡ unpacked (state self.old) true owed.variable constructor used) }
-        ensures debts { IfOk result (λ debts. debts.variables.items ≡ fields_given (state self.old) constructor used) }
-        ensures emitter { IfOk result (λ debts. debts.emitter ≡ (state self.old).instance) }
-        ensures spare { IfOk result (λ debts. debts.spare.items ≡ []) }
-        ensures err { OnErr result (state self.new ≡ state self.old) }
-        ensures kept { IfErr result (λ kept. kept.held ≡ Held.One owed) }
-    {
-        let debts = self.opened(owed, constructor, used, true)?;
-        Ok(debts)
     }
 
     // Opens a cell of that constructor, by its count or not.

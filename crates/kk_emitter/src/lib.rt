@@ -1,5 +1,4 @@
-//! Emitters: they write functions of the counted form, without tokens and with them, that spend each reference and each token
-//! once on each path.
+//! The emitter: it writes functions of the counted form with tokens, which spend each reference and each token once on each path.
 #![tactic(auto)]
 
 mod branches;
@@ -13,5 +12,4 @@ mod token_work;
 mod work;
 
 pub use debts::{ArmEnd, Arms, Debts, Kept, Owed, Spare, TokenArmEnd, give_up};
-pub use emitter::Emitter;
 pub use token_emitter::TokenEmitter;

@@ -83,8 +83,7 @@ impl<'a> TokenEmitter<'a> {
         ensures owed { IfOk result (λ owed. (owed.emitter ≡ (counted_of self.old).instance) × (owed.variable ≡ variable)) }
         ensures err { OnErr result (counted_of self.new ≡ fallen (counted_of self.old)) }
     {
-        let owed = self.plain.param(variable)?;
-        Ok(owed)
+        self.plain.param(variable)
     }
 
     /// One reference more of a variable.
@@ -140,8 +139,7 @@ impl<'a> TokenEmitter<'a> {
         ensures unwritten { OnErr result (tokens_of self.new ≡ tokens_of self.old) }
         ensures kept { IfErr result (λ kept. kept.held ≡ Held.One owed) }
     {
-        let both = self.opened(owed, constructor, used, false)?;
-        Ok(both)
+        self.opened(owed, constructor, used, false)
     }
 
     /// The same by the count of the cell: one with a single reference gives the fields away that the mask names.
@@ -162,8 +160,7 @@ impl<'a> TokenEmitter<'a> {
         ensures unwritten { OnErr result (tokens_of self.new ≡ tokens_of self.old) }
         ensures kept { IfErr result (λ kept. kept.held ≡ Held.One owed) }
     {
-        let both = self.opened(owed, constructor, used, true)?;
-        Ok(both)
+        self.opened(owed, constructor, used, true)
     }
 
     // Opens a cell of that constructor, by its count or not.
@@ -190,11 +187,19 @@ impl<'a> TokenEmitter<'a> {
             return Err(Kept::of_one(owed));
         };
         if self.work.reserve(1).is_err() {
+            let_go(step);
             return Err(Kept::of_one(owed));
         }
-        let debts = self.plain.opened(owed, constructor, used, by_count)?;
-        self.work.put_gain(step, slot);
-        Ok((debts, Spare { emitter, slot }))
+        match self.plain.opened(owed, constructor, used, by_count) {
+            Err(kept) => {
+                let_go(step);
+                Err(kept)
+            }
+            Ok(debts) => {
+                self.work.put_gain(step, slot);
+                Ok((debts, Spare { emitter, slot }))
+            }
+        }
     }
 
     // The step that opens a cell of that constructor, and the slot of its token.
@@ -236,11 +241,19 @@ impl<'a> TokenEmitter<'a> {
             return Err(Kept::of_many(debts));
         };
         if self.work.reserve(1).is_err() {
+            let_go(step);
             return Err(Kept::of_many(debts));
         }
-        let owed = self.plain.construct(constructor, debts)?;
-        self.work.put(step);
-        Ok(owed)
+        match self.plain.construct(constructor, debts) {
+            Err(kept) => {
+                let_go(step);
+                Err(kept)
+            }
+            Ok(owed) => {
+                self.work.put(step);
+                Ok(owed)
+            }
+        }
     }
 
     // The step that computes the next variable. It names all tokens, the newest first.
@@ -340,8 +353,7 @@ impl<'a> TokenEmitter<'a> {
         ensures tokens { tokens_of self.new ≡ tokens_of self.old }
         ensures kept { IfErr result (λ kept. kept.held ≡ Held.One owed) }
     {
-        let variable = self.plain.hand_over(owed)?;
-        Ok(variable)
+        self.plain.hand_over(owed)
     }
 
     /// Lends what a reference owns to calls to come. The reference stays as it is.
@@ -438,11 +450,19 @@ impl<'a> TokenEmitter<'a> {
             return Err(Kept::of_nothing());
         };
         if self.work.reserve(1).is_err() {
+            let_go(step);
             return Err(Kept::of_nothing());
         }
-        let owed = self.plain.plain(form, arguments)?;
-        self.work.put(step);
-        Ok(owed)
+        match self.plain.plain(form, arguments) {
+            Err(kept) => {
+                let_go(step);
+                Err(kept)
+            }
+            Ok(owed) => {
+                self.work.put(step);
+                Ok(owed)
+            }
+        }
     }
 
     /// A cell of that constructor, which has fields, in the cell of a token, or a new one where the token is null. It takes the
@@ -464,8 +484,7 @@ impl<'a> TokenEmitter<'a> {
         ensures unwritten { OnErr result (tokens_of self.new ≡ tokens_of self.old) }
         ensures kept { IfErr result (λ kept. kept.held ≡ Held.Filling spare debts) }
     {
-        let owed = self.fill(spare, constructor, Vec::new(self.work.alloc), debts)?;
-        Ok(owed)
+        self.fill(spare, constructor, Vec::new(self.work.alloc), debts)
     }
 
     /// The same, but where the token is not null the fields that the mask names are not written: its lowest bit tells whether the
@@ -496,8 +515,7 @@ impl<'a> TokenEmitter<'a> {
         let Ok(kept) = chosen(alloc, &positions, keep) else {
             return Err(Kept::of_filling(spare, debts));
         };
-        let owed = self.fill(spare, constructor, kept, debts)?;
-        Ok(owed)
+        self.fill(spare, constructor, kept, debts)
     }
 
     // Builds a cell in the cell of a token, which has the fields at the kept positions already.
@@ -525,10 +543,14 @@ impl<'a> TokenEmitter<'a> {
             return Err(Kept::of_filling(spare, debts));
         };
         if self.work.reserve(1).is_err() {
+            let_go(step);
             return Err(Kept::of_filling(spare, debts));
         }
         match self.plain.construct(constructor, debts) {
-            Err(kept) => Err(kept.with_token(spare)),
+            Err(kept) => {
+                let_go(step);
+                Err(kept.with_token(spare))
+            }
             Ok(owed) => {
                 spare.spend();
                 self.work.put_spend(step, slot);
@@ -624,3 +646,6 @@ impl<'a> TokenEmitter<'a> {
         self.plain.fail()
     }
 }
+
+// A step that is not written.
+fn let_go(_step: TokenedStep) {}

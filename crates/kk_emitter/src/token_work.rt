@@ -199,14 +199,8 @@ impl TokenWork {
         ensures { OnOk result (token_draft self.new ≡ tokens_ended_in (token_draft self.old) (tokened_end (token_draft self.old).ending variable) (is_some (token_draft self.old).ending) (token_draft self.old).splits) }
     {
         match mem::replace(&mut self.ending, None) {
-            None => {
-                self.end_arm(TokenedLast::Return(variable), false)?;
-                Ok(())
-            }
-            Some(last) => {
-                self.end_arm(last, true)?;
-                Ok(())
-            }
+            None => self.end_arm(TokenedLast::Return(variable), false),
+            Some(last) => self.end_arm(last, true),
         }
     }
 
@@ -215,8 +209,7 @@ impl TokenWork {
         ensures { OnOk result (token_draft self.new ≡ tokens_ended_in (token_draft self.old) (Tokened.tail_call instance arguments.now) true (token_draft self.old).splits) }
     {
         let copy = Vec::from_slice(self.alloc, arguments)?;
-        self.end_arm(TokenedLast::TailCall(instance, copy), true)?;
-        Ok(())
+        self.end_arm(TokenedLast::TailCall(instance, copy), true)
     }
 
     /// Joins the newest branch, whose value a variable takes, and gives the slots of the tokens that go on, the newest last.

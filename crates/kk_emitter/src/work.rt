@@ -2,7 +2,7 @@ ghost use Rattle.std.specs.Prelude.{◌≡◌, ◌+◌, ◌<◌, Some, None, tru
 ghost use Rattle.kk_counted.specs.CountedForms.{runs, plug, arms_of, step_move, decisions_of, last_code, block_code, reads, dups, drops};
 ghost use Rattle.kk_counted.specs.CountedCodes.{tail_call, case};
 ghost use Rattle.kk_counted.specs.VariableLists.{minus};
-ghost use Rattle.kk_emitter.specs.Drafts.{chosen_of, copies, given, wrote, computed, opens_by, opened, read_of, forked, entered, ended_in, ended_by_value, ended_by_call, joined, resumed, more_arms, branch_into, closed_steps, closed_by, closed_body, is_branch};
+ghost use Rattle.kk_emitter.specs.Drafts.{chosen_of, copies, given, wrote, computed, opens_by, opened, read_of, forked, entered, ended_in, ended_by_value, ended_by_call, joined, resumed, more_arms};
 ghost use Rattle.kk_counted.specs.Marks.{marks_of};
 ghost use Rattle.kk_counted.specs.Spending.{numbers_from};
 ghost use Rattle.kk_emitter.specs.Works.{Becomes, draft, used_at, items_of, split_of};
@@ -347,30 +347,6 @@ impl Work {
         self.steps = before;
     }
 
-    /// The function that ends by giving a variable's value. A branch that gives it as the last step ends the function itself.
-    pub fn finish(self, variable: u32) -> CountedFun
-        ensures instance { result.instance ≡ self.instance }
-        ensures parameters { result.parameters ≡ self.parameters }
-        ensures body { block_code result.body ≡ closed_body (draft [] [] (marks_of [] []) self) variable }
-    {
-        let Work {
-            alloc: _,
-            instance,
-            parameters,
-            next: _,
-            failed: _,
-            inside: _,
-            mut steps,
-            owed: _,
-            uncalled: _,
-            lent: _,
-            forks: _,
-            ending,
-        } = self;
-        let last = end_of(&mut steps, ending, variable);
-        CountedFun::new(instance, parameters, block_of(steps, last))
-    }
-
     /// The function that ends by a tail call.
     pub fn finish_by_call(self, instance: u32, arguments: Vec<u32>) -> CountedFun
         ensures instance { result.instance ≡ self.instance }
@@ -382,65 +358,6 @@ impl Work {
             self.parameters,
             block_of(self.steps, Last::TailCall(instance, arguments)),
         )
-    }
-}
-
-// How a block ends that gives a variable's value. A branch that gives it as the last step is that end, and no step.
-fn end_of(steps: &mut Vec<Step>, ending: Option<Last>, variable: u32) -> Last
-    ensures { plug (map step_move steps.new.items) (last_code result) ≡ closed_by (map step_move steps.old.items) (option_map last_code ending) variable }
-{
-    match ending {
-        Some(last) => last,
-        None => given_behind(steps, variable),
-    }
-}
-
-// The same where the end is not known yet.
-fn given_behind(steps: &mut Vec<Step>, variable: u32) -> Last
-    ensures { plug (map step_move steps.new.items) (last_code result) ≡ closed_steps (map step_move steps.old.items) variable }
-{
-    let Some(step) = steps.pop() else {
-        return Last::Return(variable);
-    };
-    match branch_into(step, variable) {
-        Ok(branch) => branch,
-        Err(step) => {
-            steps.push_reserved(step);
-            Last::Return(variable)
-        }
-    }
-}
-
-// The branch that a step runs for a variable, or else the step.
-fn branch_into(step: Step, variable: u32) -> Result<Last, Step>
-    ensures branch { IfOk result (λ branch. branch_into variable (step_move step) ≡ Some (last_code branch)) }
-    ensures none { OnErr result (branch_into variable (step_move step) ≡ None) }
-    ensures kept { IfErr result (λ kept. kept ≡ step) }
-{
-    match step {
-        Step::Inside(value, block) => {
-            if value == variable && is_branch(&block) {
-                let Block { steps: _, last } = block;
-                return Ok(last);
-            }
-            Err(Step::Inside(value, block))
-        }
-        other => Err(other),
-    }
-}
-
-// Whether a block is no more than a branch.
-fn is_branch(block: &Block) -> bool
-    ensures test { result ≡ is_branch (block_code block.now) }
-    ensures alone { result ≡ true → block_code block.now ≡ last_code block.now.last }
-{
-    if !block.steps.is_empty() {
-        return false;
-    }
-    match &block.last {
-        Last::Return(_) => false,
-        Last::TailCall(_, _) => false,
-        Last::Case(_, _, _) => true,
     }
 }
 
