@@ -1,9 +1,7 @@
-//! Tests of the layers that `build` goes through, of the cells and the tokens of an image beside those of a slow machine, and of a source
-//! that fails on its way: tests alone.
+//! Tests of the layers that `build` goes through, and of the cells and the tokens of an image beside those of a slow machine: tests
+//! alone.
 #![tactic(auto)]
 
-#[cfg(test)]
-mod adapters;
 #[cfg(test)]
 mod hand_code;
 #[cfg(test)]
