@@ -593,14 +593,16 @@ impl<'a> TokenEmitter<'a> {
         ensures ended { IfErr result (λ kept. kept.ended ≡ true) }
     {
         let TokenEmitter { plain, work } = self;
-        let Ok(copy) = Vec::from_slice(work.alloc, &arguments) else {
+        let alloc = work.alloc;
+        let steps = work.into_steps();
+        let Ok(copy) = Vec::from_slice(alloc, &arguments) else {
             return Err(Kept::of_nothing().as_ended());
         };
         let function = plain.finish_tail(instance, arguments)?;
         Ok(TokenedFun {
             parameters: function.parameters(),
             body: TokenedBlock {
-                steps: work.steps,
+                steps,
                 last: TokenedLast::TailCall(instance, copy),
             },
         })

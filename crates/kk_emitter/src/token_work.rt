@@ -131,10 +131,12 @@ impl TokenWork {
     pub fn under_holds(&self, call: TokenedStep) -> Result<Vec<TokenedStep>, NoMemory>
         ensures { IfOk result (λ steps. map tokened_move steps.items ≡ under_holds (token_draft self.now).spare (tokened_move call)) }
     {
+        let mut calling = Vec::new(self.alloc);
+        calling.push(call)?;
         let newest_first = self.newest_first()?;
         let mut steps = Vec::new(self.alloc);
         hold_all(&mut steps, &self.spare)?;
-        steps.push(call)?;
+        steps.append(&mut calling)?;
         unhold_all(&mut steps, &newest_first)?;
         Ok(steps)
     }
@@ -210,6 +212,13 @@ impl TokenWork {
     {
         let copy = Vec::from_slice(self.alloc, arguments)?;
         self.end_arm(TokenedLast::TailCall(instance, copy), true)
+    }
+
+    /// The steps that are written.
+    pub fn into_steps(self) -> Vec<TokenedStep>
+        ensures { result ≡ self.steps }
+    {
+        self.steps
     }
 
     /// Joins the newest branch, whose value a variable takes, and gives the slots of the tokens that go on, the newest last.

@@ -4,7 +4,8 @@ use Rattle.kk_counted.specs.CountedForms.{plug}
 use Rattle.kk_counted.specs.Marks.{CanBeMarked}
 use Rattle.kk_counted.specs.Programs.{IsFunctionOf, function_of}
 use Rattle.kk_counted.specs.TokenedCodes.{Tokened}
-use Rattle.kk_counted.specs.TokenedForms.{plug_tokened, tokened_move}
+use Rattle.kk_counted.specs.TokenedForms.{plug_tokened, tokened_last_code, tokened_move}
+use Rattle.kk_counted.specs.declared.tokened.TokenedLast.TheVariants as ending
 use Rattle.kk_emitter.specs.TokenEmissions.{counted_of, tokens_of}
 use Rattle.kk_emitter.specs.TokenEmitting.{KeepsTokens}
 use Rattle.kk_counted.proofs.TokenedViews.{tokened_block_is, tail_call_end}
@@ -20,7 +21,7 @@ returns-clause-function c =
     (c.requires.joined going) (c.requires.writes going).0 (c.requires.writes going).1
     (subst (λ x. IsFunctionOf (counted_of x).positions (counted_of x).instance c.in_ok-function.function) c.self.view_is of.function)
     (of.body ∙ ap (λ x. plug (counted_of x).steps (tail_call c.args.instance c.args.arguments.items)) c.self.view_is) c.parameters.ensures
-    (tokened_block_is _ ∙ (ap (plug_tokened (map tokened_move c.self.inside.work.steps.items)) (tail_call_end c.args.instance _ ∙ ap (Tokened.tail_call c.args.instance) (search rules)) ∙ ap (λ x. plug_tokened (tokens_of x).moves (Tokened.tail_call c.args.instance c.args.arguments.items)) c.self.view_is))
+    (tokened_block_is _ ∙ (ap (λ steps. plug_tokened (map tokened_move steps.items) (tokened_last_code (ending.TailCall c.args.instance c.in-Ok.copy))) c.into_steps-steps.ensures ∙ (ap (plug_tokened (map tokened_move c.self.inside.work.steps.items)) (tail_call_end c.args.instance _ ∙ ap (Tokened.tail_call c.args.instance) (search rules)) ∙ ap (λ x. plug_tokened (tokens_of x).moves (Tokened.tail_call c.args.instance c.args.arguments.items)) c.self.view_is)))
 
 pub returns-clause-marked : goal.returns-clause-marked
 returns-clause-marked c =
@@ -35,4 +36,4 @@ returns-clause-marked c =
     ∙ (ap (λ x. plug (counted_of x).steps (tail_call f arguments)) c.self.view_is
     ∙ called_bare (counted_of now) (tokens_of now) f arguments (subst (λ x. KeepsTokens (counted_of x) (tokens_of x)) c.self.view_is c.self.invariant going)))
     c.parameters.ensures
-    (tokened_block_is _ ∙ (ap (plug_tokened (map tokened_move c.self.inside.work.steps.items)) (tail_call_end f _ ∙ ap (Tokened.tail_call f) (search rules)) ∙ ap (λ x. plug_tokened (tokens_of x).moves (Tokened.tail_call f arguments)) c.self.view_is))
+    (tokened_block_is _ ∙ (ap (λ steps. plug_tokened (map tokened_move steps.items) (tokened_last_code (ending.TailCall c.args.instance c.in-Ok.copy))) c.into_steps-steps.ensures ∙ (ap (plug_tokened (map tokened_move c.self.inside.work.steps.items)) (tail_call_end f _ ∙ ap (Tokened.tail_call f) (search rules)) ∙ ap (λ x. plug_tokened (tokens_of x).moves (Tokened.tail_call f arguments)) c.self.view_is)))
