@@ -1,5 +1,5 @@
-//! The forms of a source text: tokens, the tree that they spell, and the program that it means; and the limits on
-//! the declarations of a program.
+//! The forms of a source text: tokens, the tree that they spell, and the program that it means; and the quantities of its
+//! declarations that have limits.
 #![tactic(auto)]
 
 mod accepted;

@@ -1,5 +1,4 @@
 ghost use Rattle.std.specs.Prelude.{◌≡◌};
-ghost use Rattle.kk_syntax.specs.OwnedPositions.{owned_in};
 ghost use Rattle.kk_syntax.specs.PositionsOf.{is_lent, lends, positions_of};
 
 /// How an argument is passed at a parameter.
@@ -45,19 +44,6 @@ impl Positions {
         match self.functions.get(position.function) {
             Some(parameters) => match parameters.get(position.parameter) {
                 Some(ownership) => ownership.is_lent(),
-                None => false,
-            },
-            None => false,
-        }
-    }
-
-    /// Whether a position is told of as owned.
-    pub fn is_owned(&self, position: Position) -> bool
-        ensures { result ≡ owned_in (positions_of self.now) position.function position.parameter }
-    {
-        match self.functions.get(position.function) {
-            Some(parameters) => match parameters.get(position.parameter) {
-                Some(ownership) => !ownership.is_lent(),
                 None => false,
             },
             None => false,
