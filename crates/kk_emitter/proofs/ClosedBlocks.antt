@@ -10,7 +10,6 @@ use Rattle.kk_counted.specs.Marks.{CellMarks, result_mark, HasMark, CanBeMarked}
 use Rattle.kk_counted.specs.Spending.{total, AreEven, Spends, numbers_from}
 use Rattle.kk_emitter.specs.Drafts.{Draft}
 use Rattle.kk_emitter.specs.Emitting.{IsBody}
-use Rattle.kk_counted.proofs.CountChanges.{same}
 use Rattle.kk_emitter.proofs.OwnershipSteps.{in_tail, spends_even, spends_readable}
 
 -- a code, and the same where a block ends it whose value it gives

@@ -1,5 +1,5 @@
 -- What an emitter has written of a function and what it owes, and what its calls change of that.
-use Rattle.std.specs.Prelude.{◌≡◌, ℕ, zero, suc, ◌+◌, ◌<◌, ◌/◌, ◌%◌, ◌==◌, ◌&&◌, ◌||◌, Bool, true, false, not, List, [], ◌∷◌, ◌++◌, map}
+use Rattle.std.specs.Prelude.{◌≡◌, ℕ, zero, suc, ◌+◌, ◌<◌, ◌/◌, ◌%◌, ◌==◌, ◌||◌, Bool, true, false, not, List, [], ◌∷◌, ◌++◌, map}
 use Rattle.std.specs.Prelude.{length, take, Option, Some, None, if◌then◌else◌, slice_index_or}
 use Rattle.kk_syntax.specs.declared.program.Form.{Form}
 use Rattle.kk_syntax.specs.declared.program.Form.TheVariants.{Unary, Binary, Print, Construct, Call}
@@ -11,7 +11,7 @@ use Rattle.kk_emitter.specs.declared.debts.ArmEnd.TheVariants.{Value, Tail}
 use Rattle.kk_emitter.specs.declared.debts.Held.{Held}
 use Rattle.kk_emitter.specs.declared.debts.Held.TheVariants.{Nothing, One}
 use Rattle.kk_counted.specs.CountedCodes.{Counted, give, tail_call, case}
-use Rattle.kk_counted.specs.CountedForms.{Move, computes, runs, reads, opens, opens_unique, dups, drops, put, plug, arms_of}
+use Rattle.kk_counted.specs.CountedForms.{Move, computes, runs, reads, opens, opens_unique, dups, drops, plug, arms_of}
 use Rattle.kk_counted.specs.Marks.{CellMarks}
 use Rattle.kk_counted.specs.Spending.{AllAmong, at_positions, numbers_from}
 use Rattle.kk_counted.specs.VariableLists.{minus, minus_all, HasAll}

@@ -1,11 +1,10 @@
-ghost use Rattle.std.specs.Prelude.{◌≡◌, ◌+◌, ◌<◌, Some, None, true, [], ◌∷◌, ◌++◌, map, vec_len, vec_capacity, option_map, IfOk, IfErr, OnOk, OnErr};
+ghost use Rattle.std.specs.Prelude.{◌≡◌, ◌+◌, ◌<◌, Some, None, true, [], ◌∷◌, ◌++◌, map, vec_len, vec_capacity, IfOk, IfErr, OnOk, OnErr};
 ghost use Rattle.kk_counted.specs.CountedForms.{runs, plug, arms_of, step_move, decisions_of, last_code, block_code, reads, dups, drops};
 ghost use Rattle.kk_counted.specs.CountedCodes.{tail_call, case};
 ghost use Rattle.kk_counted.specs.VariableLists.{minus};
 ghost use Rattle.kk_emitter.specs.Drafts.{chosen_of, copies, given, wrote, computed, opens_by, opened, read_of, forked, entered, ended_in, ended_by_value, ended_by_call, joined, resumed, more_arms};
-ghost use Rattle.kk_counted.specs.Marks.{marks_of};
 ghost use Rattle.kk_counted.specs.Spending.{numbers_from};
-ghost use Rattle.kk_emitter.specs.Works.{Becomes, draft, used_at, items_of, split_of};
+ghost use Rattle.kk_emitter.specs.Works.{Becomes, used_at, items_of, split_of};
 
 use crate::lists::{chosen, copies, lent_fields, numbers, take_all, take_out, take_used};
 use kk_base::NoMemory;
