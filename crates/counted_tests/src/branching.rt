@@ -7,7 +7,7 @@ ghost use Rattle.kk_counted.specs.TokenedCodes.{Tokened};
 ghost use Rattle.kk_counted.specs.TokenedForms.{TokenedMove, opens_with};
 ghost use Rattle.kk_emitter.specs.Drafts.{begun, given, unpacked, forked, outside, ended_by_value, ended_by_call, Writes, Owns};
 ghost use Rattle.kk_emitter.specs.TokenDrafts.{no_tokens, gains, spends, tokens_forked, tokens_ended_in};
-ghost use Rattle.kk_emitter.specs.TokenEmissions.{counted_of, tokens_of};
+ghost use Rattle.kk_emitter.specs.Emissions.{counted_of, tokens_of};
 ghost use Rattle.kk_emitter.specs.TokenEmitting.{HasSpare, CanEnd, IsTokenedFunctionOf};
 ghost use Rattle.kk_emitter.specs.Works.{left_in};
 ghost use Rattle.counted_tests.specs.CellTables.{table_of, IsShapeOf};
@@ -22,11 +22,11 @@ use crate::shapes::shape_of_boxes;
 use kk_base::NoMemory;
 use kk_core::{Decisions, truth_decisions};
 use kk_counted::{Shape, TokenedFun, TokenedLast, TokenedStep};
-use kk_emitter::{Arms, Debts, Owed, Spare, TokenArmEnd, TokenEmitter};
+use kk_emitter::{ArmEnd, Arms, Debts, Emitter, Owed, Spare};
 use std::alloc::Global;
 
 /// Opens the parameter, a box, by its count, and begins a branch on what was inside. Each arm is to spend that and the token.
-fn opened(emitter: &mut TokenEmitter<'_>, tests: &Decisions) -> Result<Arms, NoMemory>
+fn opened(emitter: &mut Emitter<'_>, tests: &Decisions) -> Result<Arms, NoMemory>
     requires counted { counted_of emitter.old ≡ begun ((Owned ∷ []) ∷ []) (1 ∷ []) (table_of ((true ∷ []) ∷ [])) 0 }
     requires tokens { tokens_of emitter.old ≡ no_tokens }
     requires rows { tests.now.rows ≡ 2 }
@@ -44,7 +44,7 @@ fn opened(emitter: &mut TokenEmitter<'_>, tests: &Decisions) -> Result<Arms, NoM
 }
 
 /// An arm that frees its token and gives its reference.
-fn freed(emitter: &mut TokenEmitter<'_>, mut debts: Debts, arms: Arms) -> Result<Arms, NoMemory>
+fn freed(emitter: &mut Emitter<'_>, mut debts: Debts, arms: Arms) -> Result<Arms, NoMemory>
     requires arm { IsArmOf 1 (0 ∷ []) (counted_of emitter.old) (tokens_of emitter.old) debts }
     requires can { (counted_of emitter.old).failed ≡ false → CanEnd (spends (tokens_of emitter.old) (TokenedMove.frees 0) 0) false (tokens_of emitter.old).splits }
     ensures going { OnOk result ((counted_of emitter.old).failed ≡ false) }
@@ -64,7 +64,7 @@ fn freed(emitter: &mut TokenEmitter<'_>, mut debts: Debts, arms: Arms) -> Result
 
 /// Begins a branch on what is inside of the parameter, a box, which is opened by its count. The first of two rows frees the cell
 /// and gives that. The other row is entered, which is to spend both.
-fn freed_first(alloc: Global, emitter: &mut TokenEmitter<'_>) -> Result<(Debts, Arms), NoMemory>
+fn freed_first(alloc: Global, emitter: &mut Emitter<'_>) -> Result<(Debts, Arms), NoMemory>
     requires counted { counted_of emitter.old ≡ begun ((Owned ∷ []) ∷ []) (1 ∷ []) (table_of ((true ∷ []) ∷ [])) 0 }
     requires tokens { tokens_of emitter.old ≡ no_tokens }
     ensures ok { OnOk result (counted_of emitter.new ≡ box_row) }
@@ -89,7 +89,7 @@ fn freed_first(alloc: Global, emitter: &mut TokenEmitter<'_>) -> Result<(Debts, 
 /// An arm that frees its token, and ends by a tail call of the function on its reference.
 fn freed_and_called(
     alloc: Global,
-    emitter: &mut TokenEmitter<'_>,
+    emitter: &mut Emitter<'_>,
     mut debts: Debts,
     arms: Arms,
 ) -> Result<Arms, NoMemory>
@@ -110,7 +110,7 @@ fn freed_and_called(
     };
     debts.close();
     match freed_for_call(alloc, emitter, value, spare) {
-        Ok(arguments) => ended(emitter, TokenArmEnd::Tail(0, arguments), arms),
+        Ok(arguments) => ended(emitter, ArmEnd::Tail(0, arguments), arms),
         Err(_) => Err(lose_arms(emitter, arms)),
     }
 }
@@ -118,7 +118,7 @@ fn freed_and_called(
 /// Frees a token, and hands a reference over.
 pub fn freed_for_call(
     alloc: Global,
-    emitter: &mut TokenEmitter<'_>,
+    emitter: &mut Emitter<'_>,
     value: Owed,
     spare: Spare,
 ) -> Result<Vec<u32>, NoMemory>
@@ -151,7 +151,7 @@ fn innermost(alloc: Global, shape: &Shape) -> Result<TokenedFun, NoMemory>
     requires { IsShapeOf Owned ((true ∷ []) ∷ []) shape.now }
     ensures { IfOk result (λ function. IsTokenedFunctionOf ((Owned ∷ []) ∷ []) 0 function) }
 {
-    let mut emitter = TokenEmitter::start(alloc, shape, 0)?;
+    let mut emitter = Emitter::start(alloc, shape, 0)?;
     let (debts, arms) = freed_first(alloc, &mut emitter)?;
     let arms = freed_and_called(alloc, &mut emitter, debts, arms)?;
     finished(emitter, arms)

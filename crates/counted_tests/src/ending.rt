@@ -7,17 +7,17 @@ ghost use Rattle.kk_counted.specs.TokenedCodes.{Tokened};
 ghost use Rattle.kk_counted.specs.TokenedForms.{TokenedMove};
 ghost use Rattle.kk_emitter.specs.Drafts.{joined, finished as finished_code, ended_by_value, Writes, IsOnly, AreNewest, IsBetween, IsInArm};
 ghost use Rattle.kk_emitter.specs.TokenDrafts.{spends, ended_with, tokens_joined, tokens_ended_by, tokens_ended_in};
-ghost use Rattle.kk_emitter.specs.TokenEmissions.{counted_of, tokens_of};
+ghost use Rattle.kk_emitter.specs.Emissions.{counted_of, tokens_of};
 ghost use Rattle.kk_emitter.specs.TokenEmitting.{HasSpare, HasNoSpare, HasAllSpare, CanEnd, EndsTokenArm, IsTokenedFunctionOf};
 ghost use Rattle.kk_emitter.specs.Works.{left_in};
 
 use crate::losing::{abandoned, lose, lose_all, lose_arms};
 use kk_base::NoMemory;
 use kk_counted::TokenedFun;
-use kk_emitter::{Arms, Debts, Owed, Spare, TokenArmEnd, TokenEmitter, give_up};
+use kk_emitter::{ArmEnd, Arms, Debts, Emitter, Owed, Spare, give_up};
 
 /// Ends the arm that is written, or spends what is left of its branch.
-pub fn ended(emitter: &mut TokenEmitter<'_>, end: TokenArmEnd, arms: Arms) -> Result<Arms, NoMemory>
+pub fn ended(emitter: &mut Emitter<'_>, end: ArmEnd, arms: Arms) -> Result<Arms, NoMemory>
     requires inside { (counted_of emitter.old).failed ≡ false → (counted_of emitter.old).inside ≡ true }
     requires arm { (counted_of emitter.old).failed ≡ false → IsInArm (counted_of emitter.old).splits }
     requires ends { EndsTokenArm (counted_of emitter.old) (tokens_of emitter.old) end }
@@ -38,7 +38,7 @@ pub fn ended(emitter: &mut TokenEmitter<'_>, end: TokenArmEnd, arms: Arms) -> Re
 
 /// Frees a token, and ends the arm by a value and the other tokens.
 pub fn given_without(
-    emitter: &mut TokenEmitter<'_>,
+    emitter: &mut Emitter<'_>,
     value: Owed,
     spare: Spare,
     others: Debts,
@@ -64,11 +64,11 @@ pub fn given_without(
         lose_all(emitter, others);
         return Err(lose_arms(emitter, arms));
     }
-    ended(emitter, TokenArmEnd::Value(value, others), arms)
+    ended(emitter, ArmEnd::Value(value, others), arms)
 }
 
 /// Ends the function by the value that a reference owns.
-pub fn completed(emitter: TokenEmitter<'_>, value: Owed) -> Result<TokenedFun, NoMemory>
+pub fn completed(emitter: Emitter<'_>, value: Owed) -> Result<TokenedFun, NoMemory>
     requires inside { (counted_of emitter).failed ≡ false → (counted_of emitter).inside ≡ true }
     requires joined { (counted_of emitter).failed ≡ false → (counted_of emitter).splits ≡ [] }
     requires called { (counted_of emitter).failed ≡ false → (counted_of emitter).uncalled ≡ [] }
@@ -84,7 +84,7 @@ pub fn completed(emitter: TokenEmitter<'_>, value: Owed) -> Result<TokenedFun, N
 }
 
 /// Joins the branch, which leaves no token, and ends the function by its value.
-pub fn finished(mut emitter: TokenEmitter<'_>, arms: Arms) -> Result<TokenedFun, NoMemory>
+pub fn finished(mut emitter: Emitter<'_>, arms: Arms) -> Result<TokenedFun, NoMemory>
     requires between { IsBetween (counted_of emitter) }
     requires newest { (counted_of emitter).failed ≡ false → AreNewest (counted_of emitter).splits arms.depth [] }
     requires left { left_in arms.left.items ≡ [] }

@@ -7,7 +7,7 @@ ghost use Rattle.kk_counted.specs.InstancePositions.{positions_in};
 ghost use Rattle.kk_emitter.specs.Drafts.{computed, looked, unpacked, Writes, Owns, OwnsAll, HasFields};
 ghost use Rattle.kk_emitter.specs.TokenDrafts.{adds, kept_by};
 ghost use Rattle.kk_counted.specs.TokenedForms.{TokenedMove};
-ghost use Rattle.kk_emitter.specs.TokenEmissions.{counted_of, tokens_of};
+ghost use Rattle.kk_emitter.specs.Emissions.{counted_of, tokens_of};
 ghost use Rattle.kk_emitter.specs.TokenEmitting.{HasKnown, HasSpare, IsTokenedFunctionOf};
 ghost use Rattle.counted_tests.specs.CellTables.{IsShapeOf};
 ghost use Rattle.counted_tests.specs.ArmDebts.{IsCellRow};
@@ -20,14 +20,14 @@ use crate::rebuilding::called_again;
 use crate::shapes::shape_of_pairs;
 use kk_base::NoMemory;
 use kk_counted::{Shape, TokenedFun, TokenedLast, TokenedStep};
-use kk_emitter::{Debts, Owed, Spare, TokenEmitter, give_up};
+use kk_emitter::{Debts, Emitter, Owed, Spare, give_up};
 use kk_syntax::{BinaryOperator, Form, Ownership};
 use std::alloc::Global;
 
 /// The references of the two fields of a cell, in their order.
 fn two_fields(
     alloc: Global,
-    emitter: &mut TokenEmitter<'_>,
+    emitter: &mut Emitter<'_>,
     first: Owed,
     second: Owed,
 ) -> Result<Debts, NoMemory>
@@ -57,7 +57,7 @@ fn two_fields(
 /// all fields are written.
 fn filled(
     alloc: Global,
-    emitter: &mut TokenEmitter<'_>,
+    emitter: &mut Emitter<'_>,
     spare: Spare,
     keep: Option<u8>,
     first: Owed,
@@ -99,7 +99,7 @@ fn keep(alloc: Global, shape: &Shape) -> Result<TokenedFun, NoMemory>
     requires { IsShapeOf Owned ((false ∷ true ∷ []) ∷ []) shape.now }
     ensures { IfOk result (λ function. IsTokenedFunctionOf (positions_in shape.now.instances.items) 0 function) }
 {
-    let mut emitter = TokenEmitter::start(alloc, shape, 0)?;
+    let mut emitter = Emitter::start(alloc, shape, 0)?;
     let cell = emitter.param(0)?;
     let (mut opened, spare) = match emitter.unpack_unique(cell, 0, 2) {
         Ok(both) => both,
@@ -139,7 +139,7 @@ fn a_second_field_is_left(rt: HostRuntime) -> Result<(), NoMemory> {
 /// Builds a new cell of a constructor with two fields.
 fn constructed(
     alloc: Global,
-    emitter: &mut TokenEmitter<'_>,
+    emitter: &mut Emitter<'_>,
     constructor: u32,
     first: Owed,
     second: Owed,
@@ -162,11 +162,7 @@ fn constructed(
 }
 
 /// The row of `Node(_, right) -> Node(t, spine(right))`, where `t` is the cell, which stays.
-pub fn with_spine(
-    alloc: Global,
-    emitter: &mut TokenEmitter<'_>,
-    cell: Owed,
-) -> Result<Owed, NoMemory>
+pub fn with_spine(alloc: Global, emitter: &mut Emitter<'_>, cell: Owed) -> Result<Owed, NoMemory>
     requires row { IsCellRow 1 (counted_of emitter.old) (tokens_of emitter.old) cell }
     requires lent { (counted_of emitter.old).failed ≡ false → (counted_of emitter.old).lent ≡ [] }
     ensures going { OnOk result ((counted_of emitter.old).failed ≡ false) }
@@ -197,11 +193,7 @@ pub fn with_spine(
 }
 
 /// The row of `Cons(x, xx) -> Cons(x + 1, inc(xx))`. The cell is held while the function calls itself.
-pub fn increased(
-    alloc: Global,
-    emitter: &mut TokenEmitter<'_>,
-    cell: Owed,
-) -> Result<Owed, NoMemory>
+pub fn increased(alloc: Global, emitter: &mut Emitter<'_>, cell: Owed) -> Result<Owed, NoMemory>
     requires row { IsCellRow 1 (counted_of emitter.old) (tokens_of emitter.old) cell }
     ensures going { OnOk result ((counted_of emitter.old).failed ≡ false) }
     ensures ok { OnOk result (counted_of emitter.new ≡ record (counted_of emitter.old) { steps = (counted_of emitter.new).steps; owed = 6 ∷ []; next = 7 }) }
@@ -236,7 +228,7 @@ pub fn increased(
 /// Goes on with the sum of both numbers.
 fn summed(
     alloc: Global,
-    emitter: &mut TokenEmitter<'_>,
+    emitter: &mut Emitter<'_>,
     spare: Spare,
     number: Owed,
     one: Owed,
@@ -281,7 +273,7 @@ fn summed(
 /// Hands two references over.
 fn handed_over(
     alloc: Global,
-    emitter: &mut TokenEmitter<'_>,
+    emitter: &mut Emitter<'_>,
     first: Owed,
     second: Owed,
 ) -> Result<Vec<u32>, NoMemory>
@@ -314,7 +306,7 @@ fn handed_over(
 /// Calls the function on the rest of the list, and builds a cell of the sum and what the call gives.
 fn called_and_filled(
     alloc: Global,
-    emitter: &mut TokenEmitter<'_>,
+    emitter: &mut Emitter<'_>,
     spare: Spare,
     sum: Owed,
     rest: Owed,
@@ -350,7 +342,7 @@ fn drops_one_of_two(alloc: Global, shape: &Shape) -> Result<TokenedFun, NoMemory
     requires { IsShapeOf Owned ((false ∷ true ∷ []) ∷ []) shape.now }
     ensures { IfOk result (λ function. IsTokenedFunctionOf (positions_in shape.now.instances.items) 0 function) }
 {
-    let mut emitter = TokenEmitter::start(alloc, shape, 0)?;
+    let mut emitter = Emitter::start(alloc, shape, 0)?;
     let first = emitter.param(0)?;
     let second = match emitter.dup(&first) {
         Ok(second) => second,
@@ -385,7 +377,7 @@ fn second_of_lent(alloc: Global, shape: &Shape) -> Result<TokenedFun, NoMemory>
     requires { IsShapeOf Lent ((false ∷ true ∷ []) ∷ []) shape.now }
     ensures { IfOk result (λ function. IsTokenedFunctionOf (positions_in shape.now.instances.items) 0 function) }
 {
-    let mut emitter = TokenEmitter::start(alloc, shape, 0)?;
+    let mut emitter = Emitter::start(alloc, shape, 0)?;
     let field = emitter.field(0, 0, 1)?;
     let second = emitter.dup_lent(field)?;
     completed(emitter, second)
@@ -409,7 +401,7 @@ fn last(alloc: Global, shape: &Shape) -> Result<TokenedFun, NoMemory>
     requires { IsShapeOf Owned ((false ∷ true ∷ []) ∷ []) shape.now }
     ensures { IfOk result (λ function. IsTokenedFunctionOf (positions_in shape.now.instances.items) 0 function) }
 {
-    let mut emitter = TokenEmitter::start(alloc, shape, 0)?;
+    let mut emitter = Emitter::start(alloc, shape, 0)?;
     let cell = emitter.param(0)?;
     let (mut opened, spare) = match emitter.unpack(cell, 0, 2) {
         Ok(both) => both,

@@ -1,13 +1,13 @@
 //! What a caller does that has found no memory: it spends all that it holds.
 
 ghost use Rattle.std.specs.Prelude.{◌≡◌, [], true, length};
-ghost use Rattle.kk_emitter.specs.TokenEmissions.{counted_of};
+ghost use Rattle.kk_emitter.specs.Emissions.{counted_of};
 
 use kk_base::NoMemory;
-use kk_emitter::{Arms, Debts, Kept, Owed, Spare, TokenEmitter};
+use kk_emitter::{Arms, Debts, Emitter, Kept, Owed, Spare};
 
 /// Spends what a call could not take. The emitter has failed from then on.
-pub fn abandoned(emitter: &mut TokenEmitter<'_>, kept: Kept) -> NoMemory
+pub fn abandoned(emitter: &mut Emitter<'_>, kept: Kept) -> NoMemory
     ensures { (counted_of emitter.new).failed ≡ true }
 {
     emitter.abandon(kept);
@@ -15,7 +15,7 @@ pub fn abandoned(emitter: &mut TokenEmitter<'_>, kept: Kept) -> NoMemory
 }
 
 /// Spends a reference of an emitter that has failed.
-pub fn lose(emitter: &mut TokenEmitter<'_>, owed: Owed)
+pub fn lose(emitter: &mut Emitter<'_>, owed: Owed)
     requires { (counted_of emitter.old).failed ≡ true }
     ensures { (counted_of emitter.new).failed ≡ true }
 {
@@ -25,7 +25,7 @@ pub fn lose(emitter: &mut TokenEmitter<'_>, owed: Owed)
 }
 
 /// Spends a token of an emitter that has failed.
-pub fn lose_token(emitter: &mut TokenEmitter<'_>, spare: Spare)
+pub fn lose_token(emitter: &mut Emitter<'_>, spare: Spare)
     requires { (counted_of emitter.old).failed ≡ true }
     ensures { (counted_of emitter.new).failed ≡ true }
 {
@@ -35,7 +35,7 @@ pub fn lose_token(emitter: &mut TokenEmitter<'_>, spare: Spare)
 }
 
 /// Spends the only reference of some debts of an emitter that has failed.
-pub fn lose_only(emitter: &mut TokenEmitter<'_>, mut debts: Debts)
+pub fn lose_only(emitter: &mut Emitter<'_>, mut debts: Debts)
     requires failed { (counted_of emitter.old).failed ≡ true }
     requires one { length debts.variables.items ≡ 1 }
     requires spare { debts.spare.items ≡ [] }
@@ -49,7 +49,7 @@ pub fn lose_only(emitter: &mut TokenEmitter<'_>, mut debts: Debts)
 }
 
 /// Spends all references and tokens of some debts of an emitter that has failed.
-pub fn lose_all(emitter: &mut TokenEmitter<'_>, mut debts: Debts)
+pub fn lose_all(emitter: &mut Emitter<'_>, mut debts: Debts)
     requires { (counted_of emitter.old).failed ≡ true }
     ensures { (counted_of emitter.new).failed ≡ true }
 {
@@ -63,7 +63,7 @@ pub fn lose_all(emitter: &mut TokenEmitter<'_>, mut debts: Debts)
 }
 
 /// Spends what is left of a branch of an emitter that has failed, and gives the want of memory.
-pub fn lose_arms(emitter: &mut TokenEmitter<'_>, mut arms: Arms) -> NoMemory
+pub fn lose_arms(emitter: &mut Emitter<'_>, mut arms: Arms) -> NoMemory
     requires { (counted_of emitter.old).failed ≡ true }
     ensures { (counted_of emitter.new).failed ≡ true }
 {

@@ -5,17 +5,17 @@ ghost use Rattle.kk_syntax.specs.declared.positions.Ownership.TheVariants.{Owned
 ghost use Rattle.kk_counted.specs.TokenedForms.{TokenedMove, opens_with};
 ghost use Rattle.kk_emitter.specs.Drafts.{begun, given, unpacked, computed, Writes, Owns};
 ghost use Rattle.kk_emitter.specs.TokenDrafts.{no_tokens, adds, gains, under_holds};
-ghost use Rattle.kk_emitter.specs.TokenEmissions.{counted_of, tokens_of};
+ghost use Rattle.kk_emitter.specs.Emissions.{counted_of, tokens_of};
 ghost use Rattle.counted_tests.specs.CellTables.{table_of};
 
 use crate::losing::{abandoned, lose_all};
 use kk_base::NoMemory;
-use kk_emitter::{Debts, Owed, TokenEmitter};
+use kk_emitter::{Debts, Emitter, Owed};
 use kk_syntax::Form;
 use std::alloc::Global;
 
 /// Opens the parameter, a box, by its count. What was inside and the token are to be spent then.
-pub fn opened_box(emitter: &mut TokenEmitter<'_>) -> Result<Debts, NoMemory>
+pub fn opened_box(emitter: &mut Emitter<'_>) -> Result<Debts, NoMemory>
     requires counted { counted_of emitter.old ≡ begun ((Owned ∷ []) ∷ []) (1 ∷ []) (table_of ((true ∷ []) ∷ [])) 0 }
     requires tokens { tokens_of emitter.old ≡ no_tokens }
     ensures ok { OnOk result (counted_of emitter.new ≡ unpacked (given (counted_of emitter.old) 0) true 0 0 1) }
@@ -38,11 +38,7 @@ pub fn opened_box(emitter: &mut TokenEmitter<'_>) -> Result<Debts, NoMemory>
 }
 
 /// Calls the function on a reference, while all tokens are held.
-pub fn called_again(
-    alloc: Global,
-    emitter: &mut TokenEmitter<'_>,
-    inner: Owed,
-) -> Result<Owed, NoMemory>
+pub fn called_again(alloc: Global, emitter: &mut Emitter<'_>, inner: Owed) -> Result<Owed, NoMemory>
     requires writes { Writes (counted_of emitter.old) }
     requires owns { Owns (counted_of emitter.old) inner.emitter inner.variable }
     requires positions { (counted_of emitter.old).positions ≡ (Owned ∷ []) ∷ [] }

@@ -6,7 +6,7 @@ ghost use Rattle.kk_counted.specs.CountedForms.{decisions_of};
 ghost use Rattle.kk_counted.specs.TokenedCodes.{Tokened};
 ghost use Rattle.kk_emitter.specs.Drafts.{begun, given, forked, ended_by_value};
 ghost use Rattle.kk_emitter.specs.TokenDrafts.{no_tokens, tokens_forked, tokens_ended_in, tokens_entered};
-ghost use Rattle.kk_emitter.specs.TokenEmissions.{counted_of, tokens_of};
+ghost use Rattle.kk_emitter.specs.Emissions.{counted_of, tokens_of};
 ghost use Rattle.kk_emitter.specs.TokenEmitting.{CanEnd, IsTokenedFunctionOf};
 ghost use Rattle.kk_emitter.specs.Works.{left_in};
 ghost use Rattle.counted_tests.specs.CellTables.{IsShapeOf};
@@ -21,16 +21,12 @@ use crate::shapes::shape_of_rows;
 use kk_base::NoMemory;
 use kk_core::{Decisions, truth_decisions};
 use kk_counted::{Shape, TokenedFun, TokenedLast, TokenedStep};
-use kk_emitter::{Arms, Debts, Owed, TokenArmEnd, TokenEmitter};
+use kk_emitter::{ArmEnd, Arms, Debts, Emitter, Owed};
 use kk_syntax::{BinaryOperator, Form};
 use std::alloc::Global;
 
 /// Begins a branch on the parameter. Each arm is to spend that, and no token.
-fn matched(
-    alloc: Global,
-    emitter: &mut TokenEmitter<'_>,
-    tests: &Decisions,
-) -> Result<Arms, NoMemory>
+fn matched(alloc: Global, emitter: &mut Emitter<'_>, tests: &Decisions) -> Result<Arms, NoMemory>
     requires counted { counted_of emitter.old ≡ begun ((Owned ∷ []) ∷ []) (counted_of emitter.old).field_counts (counted_of emitter.old).marks 0 }
     requires tokens { tokens_of emitter.old ≡ no_tokens }
     requires rows { tests.now.rows ≡ 2 }
@@ -53,11 +49,7 @@ fn matched(
 }
 
 /// The row of the constructor without fields: it gives the list as it is.
-fn given_back(
-    emitter: &mut TokenEmitter<'_>,
-    mut debts: Debts,
-    arms: Arms,
-) -> Result<Arms, NoMemory>
+fn given_back(emitter: &mut Emitter<'_>, mut debts: Debts, arms: Arms) -> Result<Arms, NoMemory>
     requires arm { IsArmOf 0 [] (counted_of emitter.old) (tokens_of emitter.old) debts }
     requires can { (counted_of emitter.old).failed ≡ false → CanEnd (tokens_of emitter.old) false (tokens_of emitter.old).splits }
     ensures going { OnOk result ((counted_of emitter.old).failed ≡ false) }
@@ -68,12 +60,12 @@ fn given_back(
     let Some(list) = debts.take() else {
         unreachable!();
     };
-    ended(emitter, TokenArmEnd::Value(list, debts), arms)
+    ended(emitter, ArmEnd::Value(list, debts), arms)
 }
 
 /// Begins a branch on the parameter, and writes the row of the constructor without fields: it gives that as it is. The other row
 /// is entered, which is to spend it too.
-fn given_first(alloc: Global, emitter: &mut TokenEmitter<'_>) -> Result<(Owed, Arms), NoMemory>
+fn given_first(alloc: Global, emitter: &mut Emitter<'_>) -> Result<(Owed, Arms), NoMemory>
     requires counted { counted_of emitter.old ≡ begun ((Owned ∷ []) ∷ []) (counted_of emitter.old).field_counts (counted_of emitter.old).marks 0 }
     requires tokens { tokens_of emitter.old ≡ no_tokens }
     ensures ok { OnOk result (counted_of emitter.new ≡ behind_first (given (counted_of emitter.old) 0) 0 0) }
@@ -102,10 +94,10 @@ fn spine(alloc: Global, shape: &Shape) -> Result<TokenedFun, NoMemory>
     requires { IsShapeOf Owned ((true ∷ true ∷ []) ∷ [] ∷ []) shape.now }
     ensures { IfOk result (λ function. IsTokenedFunctionOf ((Owned ∷ []) ∷ []) 0 function) }
 {
-    let mut emitter = TokenEmitter::start(alloc, shape, 0)?;
+    let mut emitter = Emitter::start(alloc, shape, 0)?;
     let (cell, arms) = given_first(alloc, &mut emitter)?;
     let end = match with_spine(alloc, &mut emitter, cell) {
-        Ok(value) => TokenArmEnd::Value(value, Debts::new(alloc)),
+        Ok(value) => ArmEnd::Value(value, Debts::new(alloc)),
         Err(_) => return Err(lose_arms(&mut emitter, arms)),
     };
     let arms = ended(&mut emitter, end, arms)?;
@@ -136,10 +128,10 @@ fn inc(alloc: Global, shape: &Shape) -> Result<TokenedFun, NoMemory>
     requires { IsShapeOf Owned ((false ∷ true ∷ []) ∷ [] ∷ []) shape.now }
     ensures { IfOk result (λ function. IsTokenedFunctionOf ((Owned ∷ []) ∷ []) 0 function) }
 {
-    let mut emitter = TokenEmitter::start(alloc, shape, 0)?;
+    let mut emitter = Emitter::start(alloc, shape, 0)?;
     let (cell, arms) = given_first(alloc, &mut emitter)?;
     let end = match increased(alloc, &mut emitter, cell) {
-        Ok(value) => TokenArmEnd::Value(value, Debts::new(alloc)),
+        Ok(value) => ArmEnd::Value(value, Debts::new(alloc)),
         Err(_) => return Err(lose_arms(&mut emitter, arms)),
     };
     let arms = ended(&mut emitter, end, arms)?;

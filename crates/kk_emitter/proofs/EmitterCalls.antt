@@ -1,6 +1,6 @@
 -- What calls of an emitter leave of its draft works, by what they ask.
-use Rattle.std.proofs.Common.{◌≡◌, ◌⊎◌, inl, inr, ℕ, zero, suc, ◌+◌, ◌≤◌, ◌<◌, ◌==◌, ◌||◌, Bool, true, false, not, List, [], ◌∷◌, ◌++◌, length, map, Option, Some, None, arith, refl, sym, ap, ◌∙◌, subst}
-use Rattle.std.specs.Prelude.{if◌then◌else◌, option_map, slice_index_or}
+use Rattle.std.proofs.Common.{◌≡◌, ◌⊎◌, inl, inr, ℕ, zero, suc, ◌+◌, ◌≤◌, ◌<◌, ◌==◌, ◌||◌, Bool, true, false, not, List, [], ◌∷◌, ◌++◌, length, map, Some, None, arith, refl, sym, ap, ◌∙◌, subst}
+use Rattle.std.specs.Prelude.{if◌then◌else◌, slice_index_or}
 use Rattle.kk_syntax.specs.declared.program.Form.{Form}
 use Rattle.kk_syntax.specs.declared.program.Form.TheVariants as OfForm
 use Rattle.kk_syntax.specs.declared.positions.Ownership.{Ownership}
@@ -8,21 +8,21 @@ use Rattle.kk_syntax.specs.declared.positions.Ownership.TheVariants.{Owned}
 use Rattle.kk_syntax.specs.Shapes.{is_among}
 use Rattle.kk_syntax.specs.PositionsOf.{PositionTable, is_lent, lends}
 use Rattle.kk_core.specs.Decisions.{NodeTree, AreOrderly}
-use Rattle.kk_counted.specs.Arms.{HasArms}
 use Rattle.kk_counted.specs.declared.shape.Parameter.{Parameter}
-use Rattle.kk_counted.specs.declared.form.Last.{Last}
-use Rattle.kk_counted.specs.declared.form.Step.{Step}
+use Rattle.kk_counted.specs.declared.tokened.TokenedStep.{TokenedStep}
 use Rattle.kk_emitter.specs.declared.work.Fork.{Fork}
 use Rattle.std.proofs.lemmas.List.{length-map, append_assoc}
 use Rattle.kk_counted.specs.CountedCodes.{Counted, tail_call}
 use Rattle.kk_emitter.specs.Computing.{CanCompute}
-use Rattle.kk_counted.specs.CountedForms.{reads, dups, drops, plug, last_code, step_move}
+use Rattle.kk_counted.specs.CountedForms.{reads, dups, drops, plug}
+use Rattle.kk_counted.specs.TokenedForms.{tokened_move}
 use Rattle.kk_counted.specs.Marks.{CellMarks}
 use Rattle.kk_counted.specs.Spending.{total, AreEven, AllAmong, AreFresh, at_positions, numbers_from, lent_by}
 use Rattle.kk_counted.specs.VariableLists.{minus_all, AreLow, AreIn}
-use Rattle.kk_emitter.specs.Drafts.{chosen_of, Split, Draft, outside, all_owed, parameters_where, begun, given, duplicated, dropped, opened, read_of, computed, forked, entered, entered_in, entered_by, end_code, is_tail, ended_in, ended_by_value, ended_by_call, resumed_as, joined, joined_in, finished, Writes, Awaits, IsAtHand, Owns, OwnsAll, HoldsAll, IsPlain, Takes, used_in, lent_in, LendsAll, IsOnly, IsBetween, AreNewest, IsInArm, EndsByCall}
+use Rattle.kk_emitter.specs.Drafts.{chosen_of, Split, Draft, outside, all_owed, parameters_where, begun, given, duplicated, dropped, opened, read_of, computed, forked, entered, entered_in, entered_by, end_code, is_tail, ended_in, ended_by_value, ended_by_call, resumed_as, joined, joined_in, finished, Writes, Awaits, IsAtHand, Owns, OwnsAll, HoldsAll, IsPlain, Takes, used_in, lent_in, LendsAll, IsOnly, AreNewest, IsInArm, EndsByCall}
 use Rattle.kk_counted.specs.Programs.{IsJudged}
 use Rattle.kk_emitter.specs.Emitting.{IsBody, Spent, owned_parameters, parameter_count, IsWholeDraft, IsSoundBy, IsSoundDraft, Works, AreLater, first, first_of}
+use Rattle.kk_emitter.specs.TokenDrafts.{bare_moves}
 use Rattle.kk_emitter.specs.Works.{used_at, lends_at, passes, back_to_front, split_of}
 use Rattle.kk_counted.proofs.CountChanges.{same}
 use Rattle.kk_counted.proofs.Evenness.{among_front, among_behind, minus_all_even, low_up, low_both, low_numbers, total_append, in_both}
@@ -127,7 +127,7 @@ lends_sound d e fields one two less above below rows sound step =
             clash left right = cc
 
 -- by what is lent now
-pub sound_now : (d : Draft) (sound : IsSoundDraft d) → IsSoundBy sound.lent d
+sound_now : (d : Draft) (sound : IsSoundDraft d) → IsSoundBy sound.lent d
 sound_now d sound = sound.sound [] (λ x is. absurd (cc))
 
 -- ---- steps are written
@@ -338,15 +338,15 @@ begun_sound positions counts marks instance =
     nothing code same = cc
 
 -- what an emitter begins with, by the parameters of its instance
-pub begun_is : (positions : PositionTable) (counts : List ℕ) (marks : CellMarks) (instance count : ℕ) (parameters : List Parameter) (uncalled lent : List ℕ) (steps : List Step) (owed : List ℕ) (forks : List Fork)
+pub begun_is : (positions : PositionTable) (counts : List ℕ) (marks : CellMarks) (instance count : ℕ) (parameters : List Parameter) (uncalled lent : List ℕ) (steps : List TokenedStep) (owed : List ℕ) (forks : List Fork)
     → map (λ parameter. parameter.ownership) parameters ≡ slice_index_or positions instance [] → count ≡ length parameters
     → uncalled ≡ at_positions (passes parameters false) 0 (numbers_from 0 (length parameters)) → lent ≡ at_positions (passes parameters true) 0 (numbers_from 0 (length parameters)) → steps ≡ [] → owed ≡ [] → forks ≡ []
-    → record (begun positions counts marks instance) { parameters = count; next = count; steps = map step_move steps; owed = owed; uncalled = uncalled; lent = lent; splits = back_to_front split_of forks [] } ≡ begun positions counts marks instance
+    → record (begun positions counts marks instance) { parameters = count; next = count; steps = bare_moves (map tokened_move steps); owed = owed; uncalled = uncalled; lent = lent; splits = back_to_front split_of forks [] } ≡ begun positions counts marks instance
 begun_is positions counts marks instance count parameters uncalled lent steps owed forks found many called others no_step no_owed no_fork =
     let d : Draft = begun positions counts marks instance in
     let passed : List Ownership = map (λ parameter. parameter.ownership) parameters in
     let long : length parameters ≡ length passed = sym (length-map parameters (λ parameter. parameter.ownership)) in
-    ap (λ (xs : List Step). record d { parameters = count; next = count; steps = map step_move xs; owed = owed; uncalled = uncalled; lent = lent; splits = back_to_front split_of forks [] }) no_step
+    ap (λ (xs : List TokenedStep). record d { parameters = count; next = count; steps = bare_moves (map tokened_move xs); owed = owed; uncalled = uncalled; lent = lent; splits = back_to_front split_of forks [] }) no_step
     ∙ (ap (λ xs. record d { parameters = count; next = count; owed = xs; uncalled = uncalled; lent = lent; splits = back_to_front split_of forks [] }) no_owed
     ∙ (ap (λ (xs : List Fork). record d { parameters = count; next = count; uncalled = uncalled; lent = lent; splits = back_to_front split_of xs [] }) no_fork
     ∙ (ap (λ n. record d { parameters = n; next = n; uncalled = uncalled; lent = lent }) (many ∙ long)
@@ -435,14 +435,6 @@ joined_sound d depth out newest sound = by_splits d.splits refl
 pub joined_works : (d e : Draft) (depth : ℕ) → d.failed ≡ false → (d.failed ≡ false → d.inside ≡ false) → (d.failed ≡ false → AreNewest d.splits depth []) → e ≡ joined d → Works d → Works e
 joined_works d e depth going between newest is works = works_by d e (joined d) going (joined_sound d depth (between going) (newest going)) is works
 
--- no arm of a branch is written, so no end is known
-pub ending_none : (o : Option Last) → option_map last_code o ≡ None → o ≡ None
-ending_none None is = refl
-ending_none (Some last) is = absurd (cc)
-
-pub between_ends : (d : Draft) → d.failed ≡ false → IsBetween d → Works d → d.ending ≡ None
-between_ends d going between works = ((sound_now d (works going)).quiet (between going)).1.1
-
 -- a join leaves the instance
 resumed_instance : (d : Draft) (split : Split) (x : ℕ) (tails : Bool) → (resumed_as d split x tails).instance ≡ d.instance
 resumed_instance d split x true = refl
@@ -481,7 +473,7 @@ tail_spent lent d f arguments going writes joins takes ends sound =
     (call_spent d.positions lent (first_of d) (all_owed d) d.steps f arguments (used_in d f arguments) (sound.steps (writes going).0 (writes going).1) even
     (λ functions. refl) (λ functions. all_wider (lent_in d f arguments) d.lent lent sound.lends (ends going).1.1.1) (λ functions have function there. have f function there ∙ takes.1))
 
-pub tail_judged : (d : Draft) (f : ℕ) (arguments : List ℕ) → d.failed ≡ false → Writes d → (d.failed ≡ false → d.splits ≡ []) → Takes d f arguments → EndsByCall d f arguments → Works d
+tail_judged : (d : Draft) (f : ℕ) (arguments : List ℕ) → d.failed ≡ false → Writes d → (d.failed ≡ false → d.splits ≡ []) → Takes d f arguments → EndsByCall d f arguments → Works d
     → IsJudged d.positions d.instance (record { parameters = d.parameters; body = plug d.steps (tail_call f arguments) })
 tail_judged d f arguments going writes joins takes ends works =
     let sound : IsSoundDraft d = works going in
@@ -489,6 +481,11 @@ tail_judged d f arguments going writes joins takes ends works =
     subst (λ n. IsJudged d.positions d.instance (record { parameters = n; body = plug d.steps (tail_call f arguments) })) (sym now.parameters)
     (judged sound.lent d (plug d.steps (tail_call f arguments)) (tail_spent sound.lent d f arguments going writes joins takes ends now) sound.own)
 
--- each case of it has an arm for each row
-pub tail_arms : (d : Draft) (f : ℕ) (arguments : List ℕ) → d.failed ≡ false → Works d → HasArms (plug d.steps (tail_call f arguments))
-tail_arms d f arguments going works = whole_body d.steps (tail_call f arguments) (works going).whole.written tt
+pub tail_body : (d : Draft) (f : ℕ) (arguments : List ℕ) → d.failed ≡ false → Writes d → (d.failed ≡ false → d.splits ≡ []) → Takes d f arguments → EndsByCall d f arguments → Works d
+    → IsBody d (plug d.steps (tail_call f arguments))
+tail_body d f arguments going writes joins takes ends works =
+    record {
+      parameters = (sound_now d (works going)).parameters;
+      judged = tail_judged d f arguments going writes joins takes ends works;
+      arms = whole_body d.steps (tail_call f arguments) (works going).whole.written tt;
+    }

@@ -4,72 +4,44 @@ use Rattle.std.specs.Prelude.{slice_index_or}
 use Rattle.kk_syntax.specs.declared.positions.Ownership.{Ownership}
 use Rattle.kk_syntax.specs.declared.positions.Ownership.TheVariants.{Owned}
 use Rattle.kk_syntax.specs.PositionsOf.{PositionTable, is_lent, lends}
-use Rattle.kk_counted.specs.declared.counted.CountedFun.{CountedFun}
 use Rattle.kk_counted.specs.declared.shape.Parameter.{Parameter}
 use Rattle.kk_emitter.specs.declared.work.Fork.{Fork}
 use Rattle.kk_emitter.specs.declared.work.Work.{Work}
 use Rattle.kk_emitter.specs.Drafts.{Split, Draft, AreNewest, fallen}
-use Rattle.kk_emitter.specs.Emissions.{Emission, state}
-use Rattle.kk_counted.specs.Arms.{HasArms}
-use Rattle.kk_counted.specs.CountedCodes.{Counted}
-use Rattle.kk_counted.specs.CountedForms.{block_code}
-use Rattle.kk_emitter.specs.Emitting.{IsSoundDraft, Works}
-use Rattle.kk_counted.specs.Marks.{CellMarks, CanBeMarked}
-use Rattle.kk_counted.specs.Programs.{IsFunctionOf, function_of, IsJudged}
+use Rattle.kk_emitter.specs.Emissions.{Emission, counted_of, tokens_of}
+use Rattle.kk_emitter.specs.TokenDrafts.{TokenDraft}
+use Rattle.kk_emitter.specs.TokenEmitting.{IsSoundEmission}
+use Rattle.kk_counted.specs.Marks.{CellMarks}
 use Rattle.kk_counted.specs.Spending.{at_positions}
-use Rattle.kk_emitter.specs.Works.{back_to_front, split_of, draft, used_at, Becomes}
-use Rattle.kk_emitter.proofs.EmitterCalls.{sound_now}
+use Rattle.kk_emitter.specs.Works.{back_to_front, split_of, draft, token_draft, used_at, Becomes}
 
 module _ {positions : PositionTable} {counts : List ℕ} {marks : CellMarks} {work : Work} {now : Emission} (is : record { positions = positions; field_counts = counts; marks = marks; work = work } ≡ now) where
   -- what a call has changed
-  pub seen : (change : Draft → Draft) (new : Work) → Becomes work new change → draft positions counts marks new ≡ change (state now)
-  seen change new becomes = becomes positions counts marks ∙ ap (λ e. change (state e)) is
+  pub seen : (change : Draft → Draft) (new : Work) → Becomes work new change → draft positions counts marks new ≡ change (counted_of now)
+  seen change new becomes = becomes positions counts marks ∙ ap (λ e. change (counted_of e)) is
 
-  pub going_now : work.failed ≡ false → (state now).failed ≡ false
+  pub written : (change : TokenDraft → TokenDraft) (new : Work) → token_draft new ≡ change (token_draft work) → token_draft new ≡ change (tokens_of now)
+  written change new becomes = becomes ∙ ap (λ e. change (tokens_of e)) is
+
+  pub going_now : work.failed ≡ false → (counted_of now).failed ≡ false
   going_now going = sym (ap (λ e. e.work.failed) is) ∙ going
 
-  pub works_now : Works (draft positions counts marks work) → Works (state now)
-  works_now works = subst (λ e. Works (state e)) is works
+  pub sound_then : IsSoundEmission (draft positions counts marks work) (token_draft work) → IsSoundEmission (counted_of now) (tokens_of now)
+  sound_then sound = subst (λ e. IsSoundEmission (counted_of e) (tokens_of e)) is sound
 
   -- a call that has changed nothing
-  pub works_same : (new : Work) → Becomes work new (λ d. d) → Works (draft positions counts marks work) → Works (draft positions counts marks new)
-  works_same new becomes works = subst Works (sym (becomes positions counts marks)) works
-
-  -- a call of an emitter that has failed
-  pub fallen_already : work.failed ≡ true → state now ≡ fallen (state now)
-  fallen_already failed = ap (λ f. record (state now) { failed = f }) (sym (ap (λ e. e.work.failed) is) ∙ failed)
+  pub sound_same : (new : Work) → Becomes work new (λ d. d) → token_draft new ≡ token_draft work → IsSoundEmission (draft positions counts marks work) (token_draft work)
+      → IsSoundEmission (draft positions counts marks new) (token_draft new)
+  sound_same new becomes same sound =
+      subst (λ t. IsSoundEmission (draft positions counts marks new) t) (sym same)
+      (subst (λ (d : Draft). IsSoundEmission d (token_draft work)) (sym (becomes positions counts marks)) sound)
 
   -- a call that has found no memory
-  pub fell_now : (mid : Work) → Becomes work mid (λ d. d) → draft positions counts marks (record mid { failed = true }) ≡ fallen (state now)
+  pub fell_now : (mid : Work) → Becomes work mid (λ d. d) → draft positions counts marks (record mid { failed = true }) ≡ fallen (counted_of now)
   fell_now mid same = ap fallen (seen (λ d. d) mid same)
 
   pub next_now : (x : ℕ) → x ≡ work.next → x ≡ now.work.next
   next_now x same = same ∙ ap (λ e. e.work.next) is
-
-  -- the function that an emitter gives, by its body
-  module _ (function : CountedFun) (body : Draft → Counted) (same : function.parameters ≡ work.parameters) (gives : block_code function.body ≡ body (draft positions counts marks work)) where
-    parameters_now : function.parameters ≡ now.work.parameters
-    parameters_now = same ∙ ap (λ e. e.work.parameters) is
-
-    body_now : block_code function.body ≡ body (state now)
-    body_now = gives ∙ ap (λ e. body (state e)) is
-
-    pub marked_now : CanBeMarked now.marks now.work.instance (record { parameters = now.work.parameters; body = body (state now) }) → CanBeMarked now.marks now.work.instance (function_of function)
-    marked_now marked =
-        subst (λ (n : ℕ). CanBeMarked now.marks now.work.instance (record { parameters = n; body = block_code function.body })) (sym parameters_now)
-        (subst (λ (code : Counted). CanBeMarked now.marks now.work.instance (record { parameters = now.work.parameters; body = code })) (sym body_now) marked)
-
-    pub function_now : function.instance ≡ work.instance → IsSoundDraft (state now) → IsJudged now.positions now.work.instance (record { parameters = now.work.parameters; body = body (state now) })
-        → HasArms (body (state now)) → IsFunctionOf now.positions now.work.instance function
-    function_now instance sound judged arms =
-        record {
-          instance = instance ∙ ap (λ e. e.work.instance) is;
-          parameters = parameters_now ∙ (sound_now (state now) sound).parameters;
-          judged =
-              subst (λ (n : ℕ). IsJudged now.positions now.work.instance (record { parameters = n; body = block_code function.body })) (sym parameters_now)
-              (subst (λ (code : Counted). IsJudged now.positions now.work.instance (record { parameters = now.work.parameters; body = code })) (sym body_now) judged);
-          arms = subst HasArms (sym body_now) arms;
-        }
 
 -- the arguments that are used up, by the parameters of an instance
 pub used_same : (positions : PositionTable) (f : ℕ) (arguments : List ℕ) (parameters : List Parameter) → map (λ parameter. parameter.ownership) parameters ≡ slice_index_or positions f []

@@ -1,5 +1,5 @@
 -- What the branches of an emitter of code with tokens change of what it has written leaves it such code.
-use Rattle.std.proofs.Common.{◌≡◌, ℕ, ◌+◌, ◌||◌, Bool, true, false, List, [], ◌∷◌}
+use Rattle.std.proofs.Common.{◌≡◌, ℕ, ◌||◌, Bool, true, false, List, [], ◌∷◌}
 use Rattle.std.proofs.Common.{◌++◌, reverse, length, Option, Some, None, refl, sym, ap, ◌∙◌, subst}
 use Rattle.std.specs.Prelude.{option_map, is_some}
 use Rattle.std.proofs.lemmas.List.{reverse-reverse}
@@ -126,13 +126,13 @@ module _ (d : Draft) (t : TokenDraft) (is : IsTokened d t) (out : d.inside ≡ f
       (sym (are.0.left ∙ ap (λ left. copies (length left) (reverse branch.each)) newest.1))
       (entered_arm split splits branch branches next rest are.0 are.1))
 
--- one that did not fail had not failed
-pub went : (d e : Draft) → (d.failed ≡ true → e ≡ d) → e.failed ≡ false → d.failed ≡ false
-went d e fell going = by_test d.failed refl
-  where
-    by_test : (b : Bool) → d.failed ≡ b → d.failed ≡ false
-    by_test true is = sym (ap (λ (x : Draft). x.failed) (fell is)) ∙ going
-    by_test false is = is
+-- where an arm is left, its tokens are
+pub tokens_left : (splits : List Split) (branches : List TokenSplit) (depth : ℕ) (next : List ℕ) (rest left : List (List ℕ)) → AreTokenSplits splits branches → AreNewest splits depth (next ∷ rest) → AreNewestTokens branches left
+    → (x : List ℕ) × ((xs : List (List ℕ)) × (left ≡ x ∷ xs))
+tokens_left [] branches depth next rest left are newest handed = absurd newest
+tokens_left (split ∷ splits) [] depth next rest left are newest handed = absurd are
+tokens_left (split ∷ splits) (branch ∷ branches) depth next rest left are newest handed =
+    (reverse branch.each, (copies (length rest) (reverse branch.each), sym handed ∙ (are.0.left ∙ ap (λ arms. copies (length arms) (reverse branch.each)) newest.1)))
 
 pub entered_keeps : (d e : Draft) (t u : TokenDraft) → KeepsTokens d t → (e.failed ≡ false → d.failed ≡ false) → IsBetween d
     → (depth : ℕ) (next : List ℕ) (rest : List (List ℕ))

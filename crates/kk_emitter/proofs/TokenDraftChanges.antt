@@ -9,29 +9,27 @@ use Rattle.kk_syntax.specs.declared.program.Form.{Form}
 use Rattle.kk_syntax.specs.declared.program.Form.TheVariants.{Construct, Call}
 use Rattle.kk_syntax.specs.declared.program.Form.TheVariants as OfForm
 use Rattle.kk_syntax.specs.Shapes.{is_among, without}
-use Rattle.kk_emitter.specs.declared.token_work.TokenWork.{TokenWork}
+use Rattle.kk_emitter.specs.declared.work.Work.{Work}
 use Rattle.kk_counted.specs.declared.tokened.TokenedStep.{TokenedStep}
-use Rattle.kk_counted.specs.declared.counted.CountedFun.{CountedFun}
 use Rattle.kk_counted.specs.declared.tokened.TokenedFun.{TokenedFun}
 use Rattle.kk_syntax.specs.PositionsOf.{PositionTable}
 use Rattle.kk_counted.specs.Arms.{HasArms}
 use Rattle.kk_counted.specs.Marks.{CellMarks, CanBeMarked}
-use Rattle.kk_counted.specs.Programs.{IsFunctionOf, IsJudged}
+use Rattle.kk_counted.specs.Programs.{IsJudged}
 use Rattle.kk_counted.proofs.CountChanges.{itself}
 use Rattle.kk_counted.specs.CountedCodes.{Counted, tail_call, compute, inside, read, open_cell, if_unique, dup, drop}
-use Rattle.kk_counted.specs.CountedForms.{computes, reads, dups, plug, block_code}
+use Rattle.kk_counted.specs.CountedForms.{computes, reads, dups, plug}
 use Rattle.kk_counted.specs.Spending.{AreApart}
 use Rattle.kk_counted.specs.TokenedCodes.{Tokened}
 use Rattle.kk_counted.specs.TokenedForms.{TokenedMove, put_tokened, plug_tokened, tokened_move, tokened_code, tokened_function, opens_with, fills_with}
 use Rattle.kk_counted.specs.TokenSpending.{SpendsTokens}
 use Rattle.kk_counted.specs.BareForms.{bare, bare_function}
 use Rattle.kk_counted.specs.KeptFields.{KnownFields, fields_in, forget_variable, forget_variables, KeepsKnown, LeavesKnown}
-use Rattle.kk_emitter.specs.Drafts.{Split, Draft, given, duplicated, dropped, unpacked, looked, fields_given, computed, opens_by, end_code, finished, IsPlain, Writes}
+use Rattle.kk_emitter.specs.Drafts.{Split, Draft, begun, given, duplicated, dropped, unpacked, looked, fields_given, computed, opens_by, end_code, finished, IsPlain, Writes}
 use Rattle.kk_emitter.specs.Emitting.{IsBody}
 use Rattle.kk_counted.specs.VariableLists.{AreLow}
-use Rattle.kk_emitter.specs.TokenDrafts.{TokenSplit, TokenDraft, token_draft, tokened_end, tokens_finished, tokens_closed, next_slot, adds, gains, spends, under_holds, reads_with, bare_move, bare_moves}
-use Rattle.kk_emitter.specs.Emissions.{Emission, state}
-use Rattle.kk_emitter.specs.TokenEmissions.{TokenEmission, counted_of}
+use Rattle.kk_emitter.specs.TokenDrafts.{TokenSplit, TokenDraft, no_tokens, tokened_end, tokens_finished, tokens_closed, next_slot, adds, gains, spends, under_holds, reads_with, bare_move, bare_moves}
+use Rattle.kk_emitter.specs.Works.{token_draft}
 use Rattle.kk_emitter.specs.TokenEmitting.{LeadsTokens, AreFalling, known_by, known_behind, AllLeave, first_spare, first_known, known_now, AreTokenSplits, IsTokened, KeepsTokens, IsTokenedFunctionOf, fields_at}
 use Rattle.kk_emitter.proofs.ClosedBlocks.{body_ends, marked_ends}
 use Rattle.kk_emitter.proofs.ClosedTokens.{TokensEnd, bare_ends, tokens_end, leaves_end, tokens_closed_end}
@@ -159,28 +157,13 @@ falling_apart [] falling = tt
 falling_apart (y ∷ ys) falling = (above_all y ys falling.0, falling_apart ys falling.1)
 
 -- a step that spends a token is put behind the others
-pub put_spent : (old : TokenWork) (steps : Vec TokenedStep) (spare : Vec ℕ) (step : TokenedStep) (slot : ℕ) → steps.items ≡ old.steps.items ++ step ∷ []
+pub put_spent : (old : Work) (steps : Vec TokenedStep) (spare : Vec ℕ) (step : TokenedStep) (slot : ℕ) → steps.items ≡ old.steps.items ++ step ∷ []
     → spare.items ≡ filter (λ y. not (y == slot)) old.spare.items
     → token_draft (record old { steps = steps; spare = spare }) ≡ spends (token_draft old) (tokened_move step) slot
 put_spent old steps spare step slot grown left =
     ap (λ (xs : List TokenedStep). record (token_draft old) { moves = map tokened_move xs; spare = reverse spare.items }) grown
     ∙ (ap (λ moves. record (token_draft old) { moves = moves; spare = reverse spare.items }) (map-append tokened_move old.steps.items (step ∷ []))
     ∙ ap (λ slots. record (token_draft old) { moves = map tokened_move old.steps.items ++ tokened_move step ∷ []; spare = slots }) (ap reverse left ∙ without_back slot old.spare.items))
-
--- ---- what is written, by what was held before room was made
-
-module _ {before now after : TokenDraft} (same : now ≡ before) where
-  pub adds_on : (moves others : List TokenedMove) → after ≡ adds now moves → moves ≡ others → after ≡ adds before others
-  adds_on moves others is equal = is ∙ (ap (λ t. adds t moves) same ∙ ap (adds before) equal)
-
-  pub put_on : (move other : TokenedMove) → after ≡ adds now (move ∷ []) → move ≡ other → after ≡ adds before (other ∷ [])
-  put_on move other is equal = adds_on (move ∷ []) (other ∷ []) is (ap (λ m. m ∷ []) equal)
-
-  pub gains_on : (move other : TokenedMove) → after ≡ gains now move → move ≡ other → after ≡ gains before other
-  gains_on move other is equal = is ∙ (ap (λ t. gains t move) same ∙ ap (gains before) equal)
-
-  pub spends_on : (move other : TokenedMove) (slot to : ℕ) → after ≡ spends now move slot → move ≡ other → slot ≡ to → after ≡ spends before other to
-  spends_on move other slot to is equal there = is ∙ (ap (λ t. spends t move slot) same ∙ (ap (λ m. spends before m slot) equal ∙ ap (spends before other) there))
 
 -- ---- what steps lead to
 
@@ -220,6 +203,10 @@ bare_fills x y c (one ∷ arguments) kept others = refl
 leads_dups : (spare used : List ℕ) → LeadsTokens spare spare (map TokenedMove.dups used)
 leads_dups spare [] left rest spent = spent
 leads_dups spare (x ∷ used) left rest spent = (refl, leads_dups spare used left rest spent)
+
+pub bare_open : (by_count : Bool) (x c : ℕ) (fields used : List ℕ) (slot : ℕ) → bare_moves (opens_with by_count x c fields used slot ∷ []) ≡ opens_by by_count x c fields used ∷ []
+bare_open true x c fields used slot = refl
+bare_open false x c fields used slot = refl
 
 pub leads_reads : (spare : List ℕ) (x c : ℕ) (fields used : List ℕ) → LeadsTokens spare spare (reads_with x c fields used)
 leads_reads spare x c fields used left rest spent = (refl, leads_dups spare used left rest spent)
@@ -386,18 +373,26 @@ keeps_same d e t u keeps going steps within splits ending is failed =
       quiet = λ out. old.quiet (sym within ∙ out);
     })
 
--- an emitter that has failed keeps nothing
-pub keeps_failed : (e : Draft) (u : TokenDraft) → e.failed ≡ true → KeepsTokens e u
-keeps_failed e u failed going = absurd (clash failed going)
-  where
-    clash : e.failed ≡ true → e.failed ≡ false → ⊥
-    clash one two = cc
-
 -- ---- each call
 
--- a block is written, as its emitter sees it
-pub writes_then : {held : Emission} {work : TokenWork} {now : TokenEmission} → record { emission = held; work = work } ≡ now → Writes (counted_of now) → Writes (state held)
-writes_then is writes = subst (λ e. Writes (counted_of e)) (sym is) writes
+-- an emitter begins without tokens
+pub begun_keeps : (d : Draft) (t : TokenDraft) (positions : PositionTable) (counts : List ℕ) (marks : CellMarks) (instance : ℕ) → d ≡ begun positions counts marks instance → t ≡ no_tokens → KeepsTokens d t
+begun_keeps d t positions counts marks instance is none going =
+    subst (λ (x : Draft). IsTokened x t) (sym is)
+    (subst (IsTokened (begun positions counts marks instance)) (sym none)
+    (record {
+      plain = refl;
+      leads = λ within open_end left rest spent. spent;
+      leaves = tt;
+      falling = tt;
+      splits = tt;
+      ending = refl;
+      closed = λ code ends. absurd (not_closed None code refl ends);
+      quiet = λ out. absurd (never out);
+    }))
+  where
+    never : true ≡ false → ⊥
+    never out = cc
 
 module _ {d e : Draft} {t u : TokenDraft} (keeps : KeepsTokens d t) (writes : Writes d) where
   -- a change that writes steps of counted code, and these with tokens
@@ -431,10 +426,6 @@ module _ {d e : Draft} {t u : TokenDraft} (keeps : KeepsTokens d t) (writes : Wr
       (ap (λ moves. d.steps ++ moves) (sym (bare_open by_count x c fields chosen (next_slot t.spare)))) refl refl refl
       (λ going falling. (leads_open t.spare by_count x c fields chosen falling, falling_next t.spare falling))
       (λ going. leaves_open (known_now t) by_count x c fields chosen (next_slot t.spare)) is
-    where
-      bare_open : (by_count : Bool) (x c : ℕ) (fields used : List ℕ) (slot : ℕ) → bare_moves (opens_with by_count x c fields used slot ∷ []) ≡ opens_by by_count x c fields used ∷ []
-      bare_open true x c fields used slot = refl
-      bare_open false x c fields used slot = refl
 
   pub reads_keeps : (x c used : ℕ) → e ≡ looked d x c used → u ≡ adds t (reads_with x c (fields_at d c) (fields_given d c used)) → KeepsTokens e u
   reads_keeps x c used becomes is =
@@ -483,7 +474,7 @@ module _ {d e : Draft} {t u : TokenDraft} (keeps : KeepsTokens d t) (writes : Wr
 -- ---- the end of a function
 
 -- a function whose code without tokens is judged
-pub tokened_function_is : (positions : PositionTable) (f n : ℕ) (code : Counted) (made : TokenedFun) (body : Tokened) → n ≡ length (slice_index_or positions f [])
+tokened_function_is : (positions : PositionTable) (f n : ℕ) (code : Counted) (made : TokenedFun) (body : Tokened) → n ≡ length (slice_index_or positions f [])
     → IsJudged positions f (record { parameters = n; body = code }) → HasArms code → code ≡ bare body → made.parameters ≡ n → tokened_code made.body ≡ body
     → SpendsTokens [] [] [] body → LeavesKnown [] body → IsTokenedFunctionOf positions f made
 tokened_function_is positions f n code made body parameters judged arms plain many written spent leaves =
@@ -499,7 +490,7 @@ tokened_function_is positions f n code made body parameters judged arms plain ma
     }
 
 -- its variables are marked, too
-pub tokened_marked : (marks : CellMarks) (f n : ℕ) (code : Counted) (made : TokenedFun) (body : Tokened)
+tokened_marked : (marks : CellMarks) (f n : ℕ) (code : Counted) (made : TokenedFun) (body : Tokened)
     → CanBeMarked marks f (record { parameters = n; body = code }) → code ≡ bare body → made.parameters ≡ n
     → tokened_code made.body ≡ body → CanBeMarked marks f (bare_function (tokened_function made))
 tokened_marked marks f n code made body marked plain many written =
@@ -530,7 +521,7 @@ closed_spent d t code is joined ends =
     )
 
 -- the body without tokens, where the function gives a value, and where it ends by a call
-pub finished_bare : (d : Draft) (t : TokenDraft) (x : ℕ) → IsTokened d t → finished d x ≡ bare (tokens_finished t x)
+finished_bare : (d : Draft) (t : TokenDraft) (x : ℕ) → IsTokened d t → finished d x ≡ bare (tokens_finished t x)
 finished_bare d t x is =
     ap (λ moves. plug moves (end_code d.ending x)) (sym is.plain)
     ∙ (ap (λ e. plug (bare_moves t.moves) (end_code e x)) (sym is.ending)
@@ -540,7 +531,7 @@ finished_bare d t x is =
     bare_end None = refl
     bare_end (Some last) = refl
 
-pub called_bare : (d : Draft) (t : TokenDraft) (f : ℕ) (arguments : List ℕ) → IsTokened d t
+called_bare : (d : Draft) (t : TokenDraft) (f : ℕ) (arguments : List ℕ) → IsTokened d t
     → plug d.steps (tail_call f arguments) ≡ bare (plug_tokened t.moves (Tokened.tail_call f arguments))
 called_bare d t f arguments is =
     ap (λ moves. plug moves (tail_call f arguments)) (sym is.plain) ∙ sym (bare_plug t.moves (Tokened.tail_call f arguments))
@@ -572,11 +563,15 @@ given_marked d t made x is marked many code =
     (subst (λ (c : Counted). CanBeMarked d.marks d.instance (record { parameters = d.parameters; body = c })) (finished_bare d t x is) marked))
     refl many code
 
-pub called_function : (d : Draft) (t : TokenDraft) (fun : CountedFun) (made : TokenedFun) (f : ℕ) (arguments : List ℕ) → IsTokened d t → t.spare ≡ [] → d.splits ≡ [] → d.inside ≡ true → d.ending ≡ None
-    → IsFunctionOf d.positions d.instance fun → block_code fun.body ≡ plug d.steps (tail_call f arguments) → made.parameters ≡ fun.parameters
+pub called_function : (d : Draft) (t : TokenDraft) (made : TokenedFun) (f : ℕ) (arguments : List ℕ) → IsTokened d t → t.spare ≡ [] → d.splits ≡ [] → d.inside ≡ true → d.ending ≡ None
+    → IsBody d (plug d.steps (tail_call f arguments)) → made.parameters ≡ d.parameters
     → tokened_code made.body ≡ plug_tokened t.moves (Tokened.tail_call f arguments) → IsTokenedFunctionOf d.positions d.instance made
-called_function d t fun made f arguments is none joined within open_end of body many code =
+called_function d t made f arguments is none joined within open_end body many code =
     let both = ends_spent d t (Tokened.tail_call f arguments) is joined within open_end none (refl, λ y. ap (λ ys. is_among ys y) none) tt in
-    tokened_function_is d.positions d.instance fun.parameters (block_code fun.body) made (plug_tokened t.moves (Tokened.tail_call f arguments)) of.parameters of.judged of.arms
-    (body ∙ called_bare d t f arguments is)
-    many code both.0 both.1
+    tokened_function_is d.positions d.instance d.parameters (plug d.steps (tail_call f arguments)) made (plug_tokened t.moves (Tokened.tail_call f arguments)) body.parameters body.judged body.arms
+    (called_bare d t f arguments is) many code both.0 both.1
+
+pub called_marked : (d : Draft) (t : TokenDraft) (made : TokenedFun) (f : ℕ) (arguments : List ℕ) → IsTokened d t → CanBeMarked d.marks d.instance (record { parameters = d.parameters; body = plug d.steps (tail_call f arguments) })
+    → made.parameters ≡ d.parameters → tokened_code made.body ≡ plug_tokened t.moves (Tokened.tail_call f arguments) → CanBeMarked d.marks d.instance (bare_function (tokened_function made))
+called_marked d t made f arguments is marked many code =
+    tokened_marked d.marks d.instance d.parameters (plug d.steps (tail_call f arguments)) made (plug_tokened t.moves (Tokened.tail_call f arguments)) marked (called_bare d t f arguments is) many code

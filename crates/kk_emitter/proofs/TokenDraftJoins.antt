@@ -14,7 +14,7 @@ use Rattle.kk_counted.specs.TokenSpending.{SpendsTokens, SpendAllTokens}
 use Rattle.kk_counted.specs.BareForms.{bare, bare_arms}
 use Rattle.kk_counted.specs.KeptFields.{KnownFields, LeavesKnown, LeaveKnown}
 use Rattle.kk_emitter.specs.Drafts.{Split, Draft, joined, joined_in, resumed_as, IsBetween, AreNewest}
-use Rattle.kk_emitter.specs.TokenDrafts.{EndedArm, TokenSplit, TokenDraft, bare_moves, next_slot, most_left, above_all}
+use Rattle.kk_emitter.specs.TokenDrafts.{EndedArm, TokenSplit, TokenDraft, bare_arm, bare_moves, next_slot, most_left, above_all}
 use Rattle.kk_emitter.specs.TokenDrafts.{joined_slots, renames, renamed, joined_code, tokens_resumed, tokens_joined}
 use Rattle.kk_emitter.specs.TokenDrafts.{tokens_joined_in}
 use Rattle.kk_emitter.specs.TokenEmitting.{LeadsTokens, AreFalling, known_by, known_behind, AllLeave, first_spare, first_known}
@@ -254,13 +254,21 @@ leaves_renames known (y ∷ ys) (z ∷ zs) = by_test (y == z) (leaves_renames kn
 
 -- ---- the arms
 
+-- an arm that leaves its tokens in other slots is the same without them
+pub bare_renamed : (slots : List ℕ) (one : EndedArm) → bare (renamed slots one) ≡ bare_arm one
+bare_renamed slots one =
+    bare_plug (one.moves ++ renames one.spare slots) one.end
+    ∙ ap (λ moves. plug moves (bare one.end)) (bare_more one.moves (renames one.spare slots) ∙ (ap (λ moves. bare_moves one.moves ++ moves) (bare_renames one.spare slots) ∙ append_nil (bare_moves one.moves)))
+
+pub bare_all_renamed : (slots : List ℕ) (arms : List EndedArm) → bare_arms (tokened_arms (map (renamed slots) arms)) ≡ arms_of (map bare_arm arms)
+bare_all_renamed slots [] = refl
+bare_all_renamed slots (one ∷ arms) =
+    ap (λ c. arm c (bare_arms (tokened_arms (map (renamed slots) arms)))) (bare_renamed slots one) ∙ ap (arm (bare_arm one)) (bare_all_renamed slots arms)
+
 module _ (each : List ℕ) (known : List KnownFields) (slots : List ℕ) where
-  bare_arm : (tails : Bool) (one : EndedArm) (code : Counted) → IsTokenArm each known tails one code
+  bare_one : (tails : Bool) (one : EndedArm) (code : Counted) → IsTokenArm each known tails one code
       → bare (renamed slots one) ≡ code
-  bare_arm tails one code is =
-      bare_plug (one.moves ++ renames one.spare slots) one.end
-      ∙ (ap (λ moves. plug moves (bare one.end)) (bare_more one.moves (renames one.spare slots) ∙ (ap (λ moves. bare_moves one.moves ++ moves) (bare_renames one.spare slots) ∙ append_nil (bare_moves one.moves)))
-      ∙ is.plain)
+  bare_one tails one code is = bare_renamed slots one ∙ is.plain
 
   pub bare_joined : (tails : Bool) (arms : List EndedArm) (codes : List Counted) → AreTokenArms each known tails arms codes
       → bare_arms (tokened_arms (map (renamed slots) arms)) ≡ arms_of codes
@@ -268,7 +276,7 @@ module _ (each : List ℕ) (known : List KnownFields) (slots : List ℕ) where
   bare_joined tails [] (code ∷ codes) are = absurd are
   bare_joined tails (one ∷ arms) [] are = absurd are
   bare_joined tails (one ∷ arms) (code ∷ codes) are =
-      ap (λ c. arm c (bare_arms (tokened_arms (map (renamed slots) arms)))) (bare_arm tails one code are.0) ∙ ap (arm code) (bare_joined tails arms codes are.1)
+      ap (λ c. arm c (bare_arms (tokened_arms (map (renamed slots) arms)))) (bare_one tails one code are.0) ∙ ap (arm code) (bare_joined tails arms codes are.1)
 
   leaves_goes : (one : EndedArm) (code : Counted) → IsTokenArm each known false one code → LeavesKnown known (renamed slots one)
   leaves_goes one code is =

@@ -6,10 +6,6 @@ use Rattle.kk_syntax.specs.declared.program.Form.TheVariants.{Unary, Binary, Pri
 use Rattle.kk_syntax.specs.Shapes.{is_among}
 use Rattle.kk_syntax.specs.PositionsOf.{PositionTable, is_lent}
 use Rattle.kk_core.specs.Decisions.{NodeTree}
-use Rattle.kk_emitter.specs.declared.debts.ArmEnd.{ArmEnd}
-use Rattle.kk_emitter.specs.declared.debts.ArmEnd.TheVariants.{Value, Tail}
-use Rattle.kk_emitter.specs.declared.debts.Held.{Held}
-use Rattle.kk_emitter.specs.declared.debts.Held.TheVariants.{Nothing, One}
 use Rattle.kk_counted.specs.CountedCodes.{Counted, give, tail_call, case}
 use Rattle.kk_counted.specs.CountedForms.{Move, computes, runs, reads, opens, opens_unique, dups, drops, plug, arms_of}
 use Rattle.kk_counted.specs.Marks.{CellMarks}
@@ -195,17 +191,6 @@ EndsByCall d f arguments =
 abbrev pub IsOnly : Draft → ℕ → ℕ → Type 0
 IsOnly d emitter x = d.failed ≡ false → (emitter ≡ d.instance) × (d.owed ≡ x ∷ [])
 
--- An arm may end so: by a variable that is all that it owns, or by a tail call.
-abbrev pub EndsArm : Draft → ArmEnd → Type 0
-EndsArm d (Value owed) = IsOnly d owed.emitter owed.variable
-EndsArm d (Tail f arguments) =
-    (d.failed ≡ false → d.ending ≡ None) × (Takes d f arguments.items × EndsByCall d f arguments.items)
-
--- what is handed back of an end that finds no memory
-abbrev pub held_of : ArmEnd → Held
-held_of (Value owed) = One owed
-held_of (Tail f arguments) = Nothing
-
 -- no arm of the newest branch is written
 abbrev pub IsBetween : Draft → Type 0
 IsBetween d = d.failed ≡ false → d.inside ≡ false
@@ -337,10 +322,6 @@ ended_by_value d x = ended_in d (end_code d.ending x) (is_tail d.ending) d.split
 
 abbrev pub ended_by_call : Draft → ℕ → List ℕ → Draft
 ended_by_call d f arguments = ended_in d (tail_call f arguments) true d.splits
-
-abbrev pub ended_by : Draft → ArmEnd → Draft
-ended_by d (Value owed) = ended_by_value d owed.variable
-ended_by d (Tail f arguments) = ended_by_call d f arguments.items
 
 -- A block goes on behind a branch, and a variable takes its value; it is lent what was lent before the branch. Where an arm
 -- ends by a tail call the branch ends the block.

@@ -6,8 +6,9 @@ use Rattle.kk_syntax.specs.contracts.positions.Ownership as OfOwnership
 use Rattle.kk_emitter.specs.contracts.work.Work as OfWork
 use Rattle.kk_emitter.specs.declared.work.Work.{Work}
 use Rattle.kk_emitter.specs.Drafts.{Draft}
+use Rattle.kk_emitter.specs.TokenDrafts.{TokenDraft}
 use Rattle.kk_counted.specs.Marks.{CellMarks}
-use Rattle.kk_emitter.specs.Works.{draft}
+use Rattle.kk_emitter.specs.Works.{draft, token_draft}
 
 -- which positions are lent, how many fields constructors have, what the types tell of cells, and what the emitter holds
 pub record Emission : Type 0 where
@@ -36,5 +37,9 @@ emission_code =
     (λ p. record { positions = p.0; field_counts = p.1.0; marks = p.1.1.0; work = p.1.1.1 })
     (λ _. refl)
 
-abbrev pub state : Emission → Draft
-state e = draft e.positions e.field_counts e.marks e.work
+-- the draft of its code without tokens, and that of its code with them
+abbrev pub counted_of : Emission → Draft
+counted_of e = draft e.positions e.field_counts e.marks e.work
+
+abbrev pub tokens_of : Emission → TokenDraft
+tokens_of e = token_draft e.work

@@ -3,6 +3,5 @@ pub mod Drafts
 pub mod Emissions
 pub mod Emitting
 pub mod TokenDrafts
-pub mod TokenEmissions
 pub mod TokenEmitting
 pub mod Works

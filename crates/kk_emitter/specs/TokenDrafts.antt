@@ -1,24 +1,18 @@
 -- What an emitter has written of a function in code with tokens, and which of its tokens are unspent.
-use Rattle.std.specs.Prelude.{ℕ, suc, ◌-◌, ◌==◌, ◌&&◌, ◌||◌, max, Bool, true, false, List, [], ◌∷◌, ◌++◌, map, reverse, length, Option, Some, None, option_map, is_some, if◌then◌else◌}
-use Rattle.std.specs.Global.{Vec}
+use Rattle.std.specs.Prelude.{ℕ, suc, ◌-◌, ◌==◌, ◌&&◌, ◌||◌, max, Bool, true, false, List, [], ◌∷◌, ◌++◌, map, reverse, length, Option, Some, None, is_some, if◌then◌else◌}
 use Rattle.kk_syntax.specs.declared.program.Form.TheVariants.{Construct}
 use Rattle.kk_syntax.specs.Shapes.{without}
 use Rattle.kk_core.specs.Decisions.{NodeTree}
-use Rattle.kk_emitter.specs.declared.debts.Debts.{Debts}
-use Rattle.kk_emitter.specs.declared.debts.Spare.{Spare}
 use Rattle.kk_emitter.specs.declared.debts.Held.{Held}
-use Rattle.kk_emitter.specs.declared.debts.Held.TheVariants.{Nothing, One, Many, Branch, Token, Filling, Ending}
-use Rattle.kk_emitter.specs.declared.debts.TokenArmEnd.{TokenArmEnd}
-use Rattle.kk_emitter.specs.declared.debts.TokenArmEnd.TheVariants.{Value, Tail}
-use Rattle.kk_emitter.specs.declared.token_work.TokenArm.{TokenArm}
-use Rattle.kk_emitter.specs.declared.token_work.TokenFork.{TokenFork}
-use Rattle.kk_emitter.specs.declared.token_work.TokenWork.{TokenWork}
-use Rattle.kk_counted.specs.CountedForms.{Move, computes, runs, reads, opens, opens_unique, dups, drops, decisions_of}
+use Rattle.kk_emitter.specs.declared.debts.Held.TheVariants.{Nothing, Ending}
+use Rattle.kk_emitter.specs.declared.debts.ArmEnd.{ArmEnd}
+use Rattle.kk_emitter.specs.declared.debts.ArmEnd.TheVariants.{Value, Tail}
+use Rattle.kk_counted.specs.CountedForms.{Move, computes, runs, reads, opens, opens_unique, dups, drops, plug}
+use Rattle.kk_counted.specs.CountedCodes.{Counted}
 use Rattle.kk_counted.specs.TokenedCodes.{Tokened}
-use Rattle.kk_counted.specs.TokenedForms.{TokenedMove, tokened_move, tokened_last_code, tokened_arms, put_tokened, plug_tokened}
+use Rattle.kk_counted.specs.TokenedForms.{TokenedMove, tokened_arms, put_tokened, plug_tokened}
 use Rattle.kk_counted.specs.Spending.{numbers_from}
 use Rattle.kk_emitter.specs.Drafts.{Draft, chosen_of, copies, ended_by_value, ended_by_call}
-use Rattle.kk_emitter.specs.Works.{back_to_front, left_in}
 use Rattle.kk_counted.specs.BareForms.{bare}
 
 -- an arm that is ended: its steps, how it ends, and the slots of the tokens that it leaves to the code behind the branch, the
@@ -47,31 +41,6 @@ pub record TokenDraft : Type 0 where
   pub spare : List ℕ
   pub splits : List TokenSplit
   pub ending : Option Tokened
-
-abbrev pub arm_of : TokenArm → EndedArm
-arm_of arm =
-    record { moves = map tokened_move arm.steps.items; end = tokened_last_code arm.last; spare = reverse arm.spare.items }
-
-abbrev pub token_split_of : TokenFork → TokenSplit
-token_split_of fork =
-    record {
-      on = fork.on;
-      decisions = decisions_of fork.tests;
-      before = map tokened_move fork.before.items;
-      each = reverse fork.each.items;
-      left = left_in fork.left.items;
-      arms = map arm_of fork.arms.items;
-      tails = fork.tails;
-    }
-
-abbrev pub token_draft : TokenWork → TokenDraft
-token_draft work =
-    record {
-      moves = map tokened_move work.steps.items;
-      spare = reverse work.spare.items;
-      splits = back_to_front token_split_of work.forks.items [];
-      ending = option_map tokened_last_code work.ending;
-    }
 
 abbrev pub no_tokens : TokenDraft
 no_tokens = record { moves = []; spare = []; splits = []; ending = None }
@@ -114,6 +83,10 @@ bare_move (TokenedMove.unholds y) = []
 abbrev pub bare_moves : List TokenedMove → List Move
 bare_moves [] = []
 bare_moves (move ∷ moves) = bare_move move ++ bare_moves moves
+
+-- an arm without its tokens
+abbrev pub bare_arm : EndedArm → Counted
+bare_arm arm = plug (bare_moves arm.moves) (bare arm.end)
 
 -- the steps that read the fields of a cell, and duplicate some of them
 abbrev pub reads_with : ℕ → ℕ → List ℕ → List ℕ → List TokenedMove
@@ -173,12 +146,12 @@ tokens_ended_in t end tails (split ∷ splits) =
       ending = None;
     }
 
-abbrev pub tokens_ended_by : TokenDraft → TokenArmEnd → TokenDraft
+abbrev pub tokens_ended_by : TokenDraft → ArmEnd → TokenDraft
 tokens_ended_by t (Value owed debts) = tokens_ended_in t (tokened_end t.ending owed.variable) (is_some t.ending) t.splits
 tokens_ended_by t (Tail f arguments) = tokens_ended_in t (Tokened.tail_call f arguments.items) true t.splits
 
 -- the same of the counted code
-abbrev pub ended_with : Draft → TokenArmEnd → Draft
+abbrev pub ended_with : Draft → ArmEnd → Draft
 ended_with d (Value owed debts) = ended_by_value d owed.variable
 ended_with d (Tail f arguments) = ended_by_call d f arguments.items
 
@@ -260,39 +233,7 @@ tokens_closed_by moves (Some code) x = plug_tokened moves code
 abbrev pub tokens_closed : TokenDraft → ℕ → Tokened
 tokens_closed t x = tokens_closed_by t.moves t.ending x
 
--- ---- what is handed back
-
--- of a token and debts, where the debts are
-abbrev pub with_token : Spare → Held → Held
-with_token spare Nothing = Nothing
-with_token spare (One owed) = One owed
-with_token spare (Many debts) = Filling spare debts
-with_token spare (Branch arms) = Branch arms
-with_token spare (Token other) = Token other
-with_token spare (Filling other debts) = Filling other debts
-with_token spare (Ending owed debts) = Ending owed debts
-
--- of references and their tokens, where the references are
-abbrev pub with_slots : Vec ℕ → Held → Held
-with_slots slots Nothing = Nothing
-with_slots slots (One owed) = One owed
-with_slots slots (Many debts) = Many (record debts { spare = slots })
-with_slots slots (Branch arms) = Branch arms
-with_slots slots (Token other) = Token other
-with_slots slots (Filling other debts) = Filling other debts
-with_slots slots (Ending owed debts) = Ending owed debts
-
--- of a reference and tokens, where the reference is
-abbrev pub with_debts : Debts → Held → Held
-with_debts debts Nothing = Nothing
-with_debts debts (One owed) = Ending owed debts
-with_debts debts (Many others) = Many others
-with_debts debts (Branch arms) = Branch arms
-with_debts debts (Token other) = Token other
-with_debts debts (Filling other others) = Filling other others
-with_debts debts (Ending owed others) = Ending owed others
-
--- of an end that finds no memory
-abbrev pub held_of_end : TokenArmEnd → Held
+-- what is handed back of an end that finds no memory
+abbrev pub held_of_end : ArmEnd → Held
 held_of_end (Value owed debts) = Ending owed debts
 held_of_end (Tail f arguments) = Nothing

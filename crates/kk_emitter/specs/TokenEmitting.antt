@@ -2,8 +2,8 @@
 use Rattle.std.specs.Prelude.{◌≡◌, ℕ, ◌||◌, Bool, true, false, List, [], ◌∷◌, Some, None, option_map, is_some, reverse, length, slice_index_or}
 use Rattle.kk_syntax.specs.PositionsOf.{PositionTable}
 use Rattle.kk_syntax.specs.Shapes.{is_among}
-use Rattle.kk_emitter.specs.declared.debts.TokenArmEnd.{TokenArmEnd}
-use Rattle.kk_emitter.specs.declared.debts.TokenArmEnd.TheVariants.{Value, Tail}
+use Rattle.kk_emitter.specs.declared.debts.ArmEnd.{ArmEnd}
+use Rattle.kk_emitter.specs.declared.debts.ArmEnd.TheVariants.{Value, Tail}
 use Rattle.kk_counted.specs.declared.tokened.TokenedFun.{TokenedFun}
 use Rattle.kk_counted.specs.Arms.{HasArms}
 use Rattle.kk_counted.specs.BareForms.{bare, bare_function}
@@ -14,6 +14,7 @@ use Rattle.kk_counted.specs.TokenedForms.{TokenedMove, plug_tokened, tokened_cod
 use Rattle.kk_counted.specs.Spending.{numbers_from}
 use Rattle.kk_counted.specs.TokenSpending.{SpendsTokens}
 use Rattle.kk_counted.specs.KeptFields.{KnownFields, fields_in, forget_slot, forget_variable, forget_variables, known_opened, KeepsKnown, LeavesKnown}
+use Rattle.kk_emitter.specs.Emitting.{Works}
 use Rattle.kk_emitter.specs.Drafts.{Split, Draft, AreOf, copies, IsOnly, Takes, EndsByCall}
 use Rattle.kk_counted.specs.VariableLists.{HasAll, minus_all, AreLow}
 use Rattle.kk_counted.specs.Programs.{IsJudged}
@@ -136,6 +137,10 @@ pub record IsTokened (d : Draft) (t : TokenDraft) : Type 0 where
 abbrev pub KeepsTokens : Draft → TokenDraft → Type 0
 KeepsTokens d t = d.failed ≡ false → IsTokened d t
 
+-- what an emitter has written is sound, without tokens and with them
+abbrev pub IsSoundEmission : Draft → TokenDraft → Type 0
+IsSoundEmission d t = Works d × KeepsTokens d t
+
 -- the token in the slot, by an emitter of that instance, is unspent
 abbrev pub HasSpare : Draft → TokenDraft → ℕ → ℕ → Type 0
 HasSpare d t emitter slot = d.failed ≡ false → (emitter ≡ d.instance) × (is_among t.spare slot ≡ true)
@@ -164,7 +169,7 @@ CanEnd t tails [] = Unit {0}
 CanEnd t tails (split ∷ splits) = AreNone (split.tails || tails) split.arms t.spare
 
 -- An arm may end so: by a variable that is all that it owns and all of its tokens, or by a tail call without tokens.
-abbrev pub EndsTokenArm : Draft → TokenDraft → TokenArmEnd → Type 0
+abbrev pub EndsTokenArm : Draft → TokenDraft → ArmEnd → Type 0
 EndsTokenArm d t (Value owed debts) =
     IsOnly d owed.emitter owed.variable × (HasAllSpare d t debts.emitter debts.spare.items
     × (d.failed ≡ false → (debts.variables.items ≡ []) × CanEnd t (is_some t.ending) t.splits))

@@ -1,15 +1,19 @@
--- What an emitter holds, as the draft of a function.
-use Rattle.std.specs.Prelude.{◌≡◌, ℕ, Bool, true, false, not, List, [], ◌∷◌, map, option_map, slice_index_or}
+-- What an emitter holds, as the drafts of a function.
+use Rattle.std.specs.Prelude.{◌≡◌, ℕ, Bool, true, false, not, List, [], ◌∷◌, map, reverse, option_map, slice_index_or}
 use Rattle.std.specs.Global.{Vec}
 use Rattle.kk_syntax.specs.declared.positions.Ownership.TheVariants.{Owned}
 use Rattle.kk_syntax.specs.PositionsOf.{PositionTable, lends}
 use Rattle.kk_counted.specs.declared.shape.Parameter.{Parameter}
 use Rattle.kk_emitter.specs.declared.work.Fork.{Fork}
+use Rattle.kk_emitter.specs.declared.work.TokenArm.{TokenArm}
 use Rattle.kk_emitter.specs.declared.work.Work.{Work}
-use Rattle.kk_counted.specs.CountedForms.{decisions_of, step_move, block_code, last_code}
+use Rattle.kk_counted.specs.BareForms.{bare}
+use Rattle.kk_counted.specs.CountedForms.{decisions_of}
 use Rattle.kk_counted.specs.Marks.{CellMarks}
 use Rattle.kk_counted.specs.Spending.{at_positions}
+use Rattle.kk_counted.specs.TokenedForms.{tokened_move, tokened_last_code}
 use Rattle.kk_emitter.specs.Drafts.{Split, Draft}
+use Rattle.kk_emitter.specs.TokenDrafts.{EndedArm, TokenSplit, TokenDraft, bare_arm, bare_moves}
 
 abbrev pub items_of : Vec ℕ → List ℕ
 items_of v = v.items
@@ -40,21 +44,41 @@ back_to_front f (x ∷ xs) done = back_to_front f xs (f x ∷ done)
 abbrev pub left_in : List (Vec ℕ) → List (List ℕ)
 left_in left = back_to_front items_of left []
 
+-- an arm that is ended
+abbrev pub arm_of : TokenArm → EndedArm
+arm_of arm =
+    record { moves = map tokened_move arm.steps.items; end = tokened_last_code arm.last; spare = reverse arm.spare.items }
+
+-- a branch that is not joined: without tokens, and what is written of it with them
 abbrev pub split_of : Fork → Split
 split_of fork =
     record {
       on = fork.on;
       decisions = decisions_of fork.tests;
       rows = fork.tests.rows;
-      before = map step_move fork.before.items;
+      before = bare_moves (map tokened_move fork.before.items);
       lent = fork.lent;
       kept = fork.kept.items;
       each = fork.each.items;
       left = left_in fork.left.items;
-      arms = map block_code fork.arms.items;
+      arms = map bare_arm (map arm_of fork.arms.items);
       tails = fork.tails;
     }
 
+abbrev pub token_split_of : Fork → TokenSplit
+token_split_of fork =
+    record {
+      on = fork.on;
+      decisions = decisions_of fork.tests;
+      before = map tokened_move fork.before.items;
+      each = reverse fork.spare.items;
+      left = left_in fork.spare_left.items;
+      arms = map arm_of fork.arms.items;
+      tails = fork.tails;
+    }
+
+-- The draft of the code without tokens, and that of the code with them. The first one has the steps of the second, each without
+-- its tokens.
 abbrev pub draft : PositionTable → List ℕ → CellMarks → Work → Draft
 draft positions field_counts marks work =
     record {
@@ -66,12 +90,21 @@ draft positions field_counts marks work =
       next = work.next;
       failed = work.failed;
       inside = work.inside;
-      steps = map step_move work.steps.items;
+      steps = bare_moves (map tokened_move work.steps.items);
       owed = work.owed.items;
       uncalled = work.uncalled.items;
       lent = work.lent.items;
       splits = back_to_front split_of work.forks.items [];
-      ending = option_map last_code work.ending;
+      ending = option_map bare (option_map tokened_last_code work.ending);
+    }
+
+abbrev pub token_draft : Work → TokenDraft
+token_draft work =
+    record {
+      moves = map tokened_move work.steps.items;
+      spare = reverse work.spare.items;
+      splits = back_to_front token_split_of work.forks.items [];
+      ending = option_map tokened_last_code work.ending;
     }
 
 -- a change of what an emitter holds, as one of its draft

@@ -1,6 +1,5 @@
 ghost use Rattle.std.specs.Prelude.{◌≡◌, true, false, ◌∷◌, ◌++◌, [], IfSome, IfNone, OnOk, OnErr, IfErr};
 ghost use Rattle.kk_emitter.specs.Drafts.{AreOf};
-ghost use Rattle.kk_emitter.specs.TokenDrafts.{with_token, with_slots, with_debts};
 
 use kk_base::NoMemory;
 use std::alloc::Global;
@@ -188,29 +187,11 @@ pub struct Arms {
     /// How many branches of the emitter were not joined when it began, with itself.
     pub(crate) depth: usize,
     pub(crate) left: Vec<Vec<u32>>,
-    /// The slots of the tokens among it. An emitter of code without tokens has none.
+    /// The slots of the tokens among it.
     pub(crate) spare: Vec<Vec<u32>>,
 }
 
 impl Arms {
-    // The same with tokens for each arm.
-    pub(crate) fn with_slots(self, spare: Vec<Vec<u32>>) -> Self
-        ensures { result ≡ record self { spare = spare } }
-    {
-        let Arms {
-            emitter,
-            depth,
-            left,
-            spare: _,
-        } = self;
-        Arms {
-            emitter,
-            depth,
-            left,
-            spare,
-        }
-    }
-
     // It is spent by what has been written of it.
     pub(crate) fn spend(self) {
         let Arms {
@@ -224,14 +205,6 @@ impl Arms {
 
 /// How an arm ends. It cannot be let go.
 pub enum ArmEnd {
-    /// By giving the value that a reference owns.
-    Value(Owed),
-    /// By a tail call of an instance. Its arguments at owned positions were handed over.
-    Tail(u32, Vec<u32>),
-}
-
-/// How an arm of code with tokens ends. It cannot be let go.
-pub enum TokenArmEnd {
     /// By giving the value that a reference owns. The debts are the tokens that go on behind the branch.
     Value(Owed, Debts),
     /// By a tail call of an instance. Its arguments at owned positions were handed over.
@@ -327,68 +300,6 @@ impl Kept {
         Kept {
             held: Held::Ending(owed, debts),
             ended: false,
-        }
-    }
-
-    // The same with the tokens of its debts, of a call that was handed them with their references.
-    pub(crate) fn with_slots(self, slots: Vec<u32>) -> Self
-        ensures held { result.held ≡ with_slots slots self.held }
-        ensures ended { result.ended ≡ self.ended }
-    {
-        let Kept { held, ended } = self;
-        match held {
-            Held::Many(debts) => {
-                let Debts {
-                    emitter,
-                    variables,
-                    spare: _,
-                } = debts;
-                Kept {
-                    held: Held::Many(Debts {
-                        emitter,
-                        variables,
-                        spare: slots,
-                    }),
-                    ended,
-                }
-            }
-            held => Kept { held, ended },
-        }
-    }
-
-    // The same with tokens, of a call that was handed them with a reference.
-    pub(crate) fn with_debts(self, debts: Debts) -> Self
-        ensures held { result.held ≡ with_debts debts self.held }
-        ensures ended { result.ended ≡ self.ended }
-    {
-        let Kept { held, ended } = self;
-        match held {
-            Held::One(owed) => Kept {
-                held: Held::Ending(owed, debts),
-                ended,
-            },
-            held => {
-                debts.spend();
-                Kept { held, ended }
-            }
-        }
-    }
-
-    // The same with a token, of a call that was handed it with debts.
-    pub(crate) fn with_token(self, spare: Spare) -> Self
-        ensures held { result.held ≡ with_token spare self.held }
-        ensures ended { result.ended ≡ self.ended }
-    {
-        let Kept { held, ended } = self;
-        match held {
-            Held::Many(debts) => Kept {
-                held: Held::Filling(spare, debts),
-                ended,
-            },
-            held => {
-                spare.spend();
-                Kept { held, ended }
-            }
         }
     }
 

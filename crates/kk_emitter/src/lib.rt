@@ -4,12 +4,11 @@
 mod branches;
 mod debts;
 mod emitter;
+mod forks;
+mod joins;
 mod lists;
-mod token_branches;
-mod token_emitter;
-mod token_joins;
-mod token_work;
+mod steps;
 mod work;
 
-pub use debts::{ArmEnd, Arms, Debts, Kept, Owed, Spare, TokenArmEnd, give_up};
-pub use token_emitter::TokenEmitter;
+pub use debts::{ArmEnd, Arms, Debts, Kept, Owed, Spare, give_up};
+pub use emitter::Emitter;

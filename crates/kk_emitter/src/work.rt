@@ -1,18 +1,28 @@
-ghost use Rattle.std.specs.Prelude.{◌≡◌, ◌+◌, ◌<◌, Some, None, true, [], ◌∷◌, ◌++◌, map, vec_len, vec_capacity, IfOk, IfErr, OnOk, OnErr};
-ghost use Rattle.kk_counted.specs.CountedForms.{runs, plug, arms_of, step_move, decisions_of, last_code, block_code, reads, dups, drops};
-ghost use Rattle.kk_counted.specs.CountedCodes.{tail_call, case};
-ghost use Rattle.kk_counted.specs.VariableLists.{minus};
-ghost use Rattle.kk_emitter.specs.Drafts.{chosen_of, copies, given, wrote, computed, opens_by, opened, read_of, forked, entered, ended_in, ended_by_value, ended_by_call, joined, resumed, more_arms};
+ghost use Rattle.std.specs.Prelude.{◌≡◌, ◌+◌, ◌<◌, ◌^◌, ◌∷◌, ◌++◌, [], length, map, vec_len, vec_capacity, IfOk, OnOk, OnErr};
+ghost use Rattle.kk_syntax.specs.Shapes.{without};
 ghost use Rattle.kk_counted.specs.Spending.{numbers_from};
-ghost use Rattle.kk_emitter.specs.Works.{Becomes, used_at, items_of, split_of};
+ghost use Rattle.kk_counted.specs.TokenedForms.{TokenedMove, tokened_move, opens_with, fills_with};
+ghost use Rattle.kk_counted.specs.VariableLists.{minus_all};
+ghost use Rattle.kk_emitter.specs.Drafts.{chosen_of, given, duplicated, dropped, computed, opened, read_of};
+ghost use Rattle.kk_emitter.specs.TokenDrafts.{adds, gains, spends, next_slot, under_holds, reads_with};
+ghost use Rattle.kk_emitter.specs.Works.{Becomes, token_draft, used_at};
 
-use crate::lists::{chosen, copies, lent_fields, numbers, take_all, take_out, take_used};
+use crate::lists::{chosen, lent_fields, numbers, take_out, take_used};
+use crate::steps::{computing, newest_first, next_slot, reading, take_slot, under_holds};
 use kk_base::NoMemory;
 use kk_core::Decisions;
-use kk_counted::{Block, CountedFun, Last, Parameter, Step};
+use kk_counted::{Parameter, TokenedLast, TokenedStep, filling_step, opening_step};
 use kk_syntax::Form;
 use std::alloc::Global;
-use std::mem;
+
+/// An arm that is ended.
+#[derive(Drop)]
+pub struct TokenArm {
+    pub steps: Vec<TokenedStep>,
+    pub last: TokenedLast,
+    /// The slots of the tokens that it leaves to the code behind the branch, the newest last.
+    pub spare: Vec<u32>,
+}
 
 /// A branch that is not joined.
 #[derive(Drop)]
@@ -20,7 +30,7 @@ pub struct Fork {
     pub on: u32,
     pub tests: Decisions,
     /// The steps of the block before the branch.
-    pub before: Vec<Step>,
+    pub before: Vec<TokenedStep>,
     /// How many variables the block is lent.
     pub lent: usize,
     /// What the block owns besides.
@@ -29,8 +39,12 @@ pub struct Fork {
     pub each: Vec<u32>,
     /// The same list for each arm that is not entered.
     pub left: Vec<Vec<u32>>,
+    /// The slots of the tokens that each arm is to spend, the newest last.
+    pub spare: Vec<u32>,
+    /// The same list for each arm that is not entered.
+    pub spare_left: Vec<Vec<u32>>,
     /// The arms that are ended.
-    pub arms: Vec<Block>,
+    pub arms: Vec<TokenArm>,
     /// Whether one of them ends by a tail call.
     pub tails: bool,
 }
@@ -49,17 +63,19 @@ pub struct Work {
     /// Whether a block is written.
     pub inside: bool,
     /// The steps of that block.
-    pub steps: Vec<Step>,
+    pub steps: Vec<TokenedStep>,
     /// The variables that it owns.
     pub owed: Vec<u32>,
     /// The owned parameters that are not called yet.
     pub uncalled: Vec<u32>,
     /// The variables that it is lent: lent parameters, and fields of cells that lent variables name.
     pub lent: Vec<u32>,
+    /// The slots of the unspent tokens, the newest last.
+    pub spare: Vec<u32>,
     /// The branches that are not joined, the newest last.
     pub forks: Vec<Fork>,
     /// How the block ends, once a branch with tail calls is joined.
-    pub ending: Option<Last>,
+    pub ending: Option<TokenedLast>,
 }
 
 impl Work {
@@ -67,6 +83,7 @@ impl Work {
     pub fn give(&mut self, variable: u32) -> Result<(), NoMemory>
         ensures ok { OnOk result (Becomes self.old self.new (λ d. given d variable)) }
         ensures err { OnErr result (Becomes self.old self.new (λ d. d)) }
+        ensures tokens { token_draft self.new ≡ token_draft self.old }
     {
         self.owed.push(variable)?;
         take_out(&mut self.uncalled, variable);
@@ -75,22 +92,37 @@ impl Work {
 
     /// Writes that a variable gets a reference more.
     pub fn dup(&mut self, variable: u32) -> Result<(), NoMemory>
-        ensures ok { OnOk result (Becomes self.old self.new (λ d. wrote d (dups variable) (d.owed ++ variable ∷ []) d.next)) }
+        ensures ok { OnOk result (Becomes self.old self.new (λ d. duplicated d variable)) }
+        ensures tokens { OnOk result (token_draft self.new ≡ adds (token_draft self.old) (TokenedMove.dups variable ∷ [])) }
         ensures err { OnErr result (Becomes self.old self.new (λ d. d)) }
+        ensures unwritten { OnErr result (token_draft self.new ≡ token_draft self.old) }
     {
         self.owed.reserve(1)?;
-        self.steps.push(Step::Dup(variable))?;
+        self.steps.push(TokenedStep::Dup { variable })?;
         self.owed.push_reserved(variable);
         Ok(())
     }
 
     /// Writes that a reference of a variable is given up.
     pub fn give_up(&mut self, variable: u32) -> Result<(), NoMemory>
-        ensures ok { OnOk result (Becomes self.old self.new (λ d. wrote d (drops variable) (minus variable d.owed) d.next)) }
+        ensures ok { OnOk result (Becomes self.old self.new (λ d. dropped d variable)) }
+        ensures tokens { OnOk result (token_draft self.new ≡ adds (token_draft self.old) (TokenedMove.drops variable ∷ [])) }
         ensures err { OnErr result (Becomes self.old self.new (λ d. d)) }
+        ensures unwritten { OnErr result (token_draft self.new ≡ token_draft self.old) }
     {
-        self.steps.push(Step::Drop(variable))?;
+        self.steps.push(TokenedStep::Drop { variable })?;
         take_out(&mut self.owed, variable);
+        Ok(())
+    }
+
+    /// Writes that the cell of the token in a slot is freed.
+    pub fn release(&mut self, slot: u32) -> Result<(), NoMemory>
+        ensures same { Becomes self.old self.new (λ d. d) }
+        ensures tokens { OnOk result (token_draft self.new ≡ spends (token_draft self.old) (TokenedMove.frees slot) slot) }
+        ensures unwritten { OnErr result (token_draft self.new ≡ token_draft self.old) }
+    {
+        self.steps.push(TokenedStep::Free { slot })?;
+        take_slot(&mut self.spare, slot);
         Ok(())
     }
 
@@ -99,30 +131,131 @@ impl Work {
     pub fn compute(
         &mut self,
         form: Form,
-        arguments: Vec<u32>,
+        arguments: &[u32],
         parameters: &[Parameter],
-    ) -> Result<u32, Vec<u32>>
+    ) -> Result<u32, NoMemory>
         ensures variable { IfOk result (λ variable. variable ≡ self.old.next) }
-        ensures ok { OnOk result (Becomes self.old self.new (λ d. computed d form arguments.items (used_at parameters.now arguments.items))) }
-        ensures kept { IfErr result (λ kept. kept ≡ arguments) }
+        ensures ok { OnOk result (Becomes self.old self.new (λ d. computed d form arguments.now (used_at parameters.now arguments.now))) }
+        ensures tokens { OnOk result (token_draft self.new ≡ adds (token_draft self.old) (TokenedMove.computes self.old.next form arguments.now (token_draft self.old).spare ∷ [])) }
         ensures err { OnErr result (Becomes self.old self.new (λ d. d)) }
+        ensures unwritten { OnErr result (token_draft self.new ≡ token_draft self.old) }
     {
-        if self.next == u32::MAX
-            || self.steps.reserve(1).is_err()
-            || self.owed.reserve(1).is_err()
-        {
-            return Err(arguments);
-        }
-        take_used(&mut self.owed, &arguments, parameters);
-        let variable = self.next;
-        self.owed.push_reserved(variable);
-        self.steps
-            .push_reserved(Step::Let(variable, form, arguments));
-        self.next += 1;
-        Ok(variable)
+        self.make_room()?;
+        let step = computing(self.alloc, self.next, form, arguments, &self.spare)?;
+        self.steps.push(step)?;
+        Ok(self.use_up(arguments, parameters))
     }
 
-    /// Writes that a cell is opened, by its count or not, and gives the variables of the fields that the mask names.
+    /// Writes a call of an instance on variables, under the unspent tokens: they are held before it and taken back behind it.
+    pub fn call(
+        &mut self,
+        instance: u32,
+        arguments: &[u32],
+        parameters: &[Parameter],
+    ) -> Result<u32, NoMemory>
+        ensures variable { IfOk result (λ variable. variable ≡ self.old.next) }
+        ensures ok { OnOk result (Becomes self.old self.new (λ d. computed d (Form.Call instance) arguments.now (used_at parameters.now arguments.now))) }
+        ensures tokens { OnOk result (token_draft self.new ≡ adds (token_draft self.old) (under_holds (token_draft self.old).spare (TokenedMove.computes self.old.next (Form.Call instance) arguments.now (token_draft self.old).spare))) }
+        ensures err { OnErr result (Becomes self.old self.new (λ d. d)) }
+        ensures unwritten { OnErr result (token_draft self.new ≡ token_draft self.old) }
+    {
+        self.make_room()?;
+        let mut steps = self.calling(instance, arguments)?;
+        self.steps.append(&mut steps)?;
+        Ok(self.use_up(arguments, parameters))
+    }
+
+    // The steps of a call under the unspent tokens.
+    fn calling(&self, instance: u32, arguments: &[u32]) -> Result<Vec<TokenedStep>, NoMemory>
+        ensures { IfOk result (λ steps. map tokened_move steps.items ≡ under_holds (token_draft self.now).spare (TokenedMove.computes self.now.next (Form.Call instance) arguments.now (token_draft self.now).spare)) }
+    {
+        let call = computing(
+            self.alloc,
+            self.next,
+            Form::Call(instance),
+            arguments,
+            &self.spare,
+        )?;
+        under_holds(self.alloc, call, &self.spare)
+    }
+
+    /// Writes that a cell is built in the cell of the token in a slot, which has the fields at the kept positions already.
+    pub fn fill(
+        &mut self,
+        slot: u32,
+        constructor: u32,
+        arguments: &[u32],
+        kept: Vec<u32>,
+    ) -> Result<u32, NoMemory>
+        requires { 0 < length arguments.now }
+        ensures variable { IfOk result (λ variable. variable ≡ self.old.next) }
+        ensures ok { OnOk result (Becomes self.old self.new (λ d. computed d (Form.Construct constructor) arguments.now arguments.now)) }
+        ensures tokens { OnOk result (token_draft self.new ≡ spends (token_draft self.old) (fills_with self.old.next slot constructor arguments.now kept.items (without (slot ∷ []) (token_draft self.old).spare)) slot) }
+        ensures err { OnErr result (Becomes self.old self.new (λ d. d)) }
+        ensures unwritten { OnErr result (token_draft self.new ≡ token_draft self.old) }
+    {
+        self.make_room()?;
+        let step = self.filling(slot, constructor, arguments, kept)?;
+        self.steps.push(step)?;
+        take_slot(&mut self.spare, slot);
+        Ok(self.use_up(arguments, &[]))
+    }
+
+    // The step that builds the next variable's cell in the cell of a token. It names the other tokens, the newest first.
+    fn filling(
+        &self,
+        slot: u32,
+        constructor: u32,
+        arguments: &[u32],
+        kept: Vec<u32>,
+    ) -> Result<TokenedStep, NoMemory>
+        requires { 0 < length arguments.now }
+        ensures { IfOk result (λ step. tokened_move step ≡ fills_with self.now.next slot constructor arguments.now kept.items (without (slot ∷ []) (token_draft self.now).spare)) }
+    {
+        let mut others = newest_first(self.alloc, &self.spare)?;
+        take_slot(&mut others, slot);
+        filling_step(
+            self.alloc,
+            self.next,
+            slot,
+            constructor,
+            arguments,
+            kept,
+            others,
+        )
+    }
+
+    // Makes room for the variable that takes a value.
+    fn make_room(&mut self) -> Result<(), NoMemory>
+        ensures same { self.new ≡ record self.old { owed = self.new.owed } }
+        ensures owed { self.new.owed.items ≡ self.old.owed.items }
+        ensures room { OnOk result (vec_len self.new.owed < vec_capacity self.new.owed) }
+        ensures next { OnOk result (self.new.next + 1 < 2 ^ 32) }
+    {
+        if self.next == u32::MAX {
+            return Err(NoMemory);
+        }
+        self.owed.reserve(1)?;
+        Ok(())
+    }
+
+    // Uses up arguments at positions that are not lent, and gives the next variable, which takes a value.
+    fn use_up(&mut self, arguments: &[u32], parameters: &[Parameter]) -> u32
+        requires room { vec_len self.old.owed < vec_capacity self.old.owed }
+        requires next { self.old.next + 1 < 2 ^ 32 }
+        ensures variable { result ≡ self.old.next }
+        ensures same { self.new ≡ record self.old { owed = self.new.owed; next = self.old.next + 1 } }
+        ensures owed { self.new.owed.items ≡ minus_all (used_at parameters.now arguments.now) self.old.owed.items ++ self.old.next ∷ [] }
+    {
+        take_used(&mut self.owed, arguments, parameters);
+        let variable = self.next;
+        self.owed.push_reserved(variable);
+        self.next += 1;
+        variable
+    }
+
+    /// Writes that a cell is opened, by its count or not, and gives the variables of the fields that the mask names, and the
+    /// slot of its token.
     pub fn open(
         &mut self,
         variable: u32,
@@ -130,21 +263,27 @@ impl Work {
         count: usize,
         used: u8,
         by_count: bool,
-    ) -> Result<Vec<u32>, NoMemory>
-        ensures variables { IfOk result (λ given. given.items ≡ chosen_of used (numbers_from self.old.next count)) }
+    ) -> Result<(Vec<u32>, u32), NoMemory>
+        ensures variables { IfOk result (λ given. given.0.items ≡ chosen_of used (numbers_from self.old.next count)) }
+        ensures slot { IfOk result (λ given. given.1 ≡ next_slot (token_draft self.old).spare) }
         ensures ok { OnOk result (Becomes self.old self.new (λ d. opened d by_count variable constructor count used)) }
+        ensures tokens { OnOk result (token_draft self.new ≡ gains (token_draft self.old) (opens_with by_count variable constructor (numbers_from self.old.next count) (chosen_of used (numbers_from self.old.next count)) (next_slot (token_draft self.old).spare))) }
         ensures err { OnErr result (Becomes self.old self.new (λ d. d)) }
+        ensures unwritten { OnErr result (token_draft self.new ≡ token_draft self.old) }
     {
+        self.spare.reserve(1)?;
+        let slot = next_slot(&self.spare)?;
         let (fields, next) = numbers(self.alloc, self.next, count)?;
         let names = chosen(self.alloc, &fields, used)?;
         let given = Vec::from_slice(self.alloc, &names)?;
         self.owed.reserve(given.len())?;
-        let step = opening(variable, constructor, fields, names, by_count);
+        let step = opening_step(variable, constructor, fields, names, slot, by_count);
         self.steps.push(step)?;
         take_out(&mut self.owed, variable);
         let _ = self.owed.extend_from_slice(&given);
+        self.spare.push_reserved(slot);
         self.next = next;
-        Ok(given)
+        Ok((given, slot))
     }
 
     /// Writes that the fields of a cell that stays are read, and gives the variables of those that the mask names, which get
@@ -159,7 +298,9 @@ impl Work {
         ensures variables { IfOk result (λ given. given.items ≡ chosen_of used (numbers_from self.old.next count)) }
         ensures next { OnOk result (self.new.next ≡ self.old.next + count) }
         ensures ok { OnOk result (Becomes self.old self.new (λ d. read_of d variable constructor count used)) }
+        ensures tokens { OnOk result (token_draft self.new ≡ adds (token_draft self.old) (reads_with variable constructor (numbers_from self.old.next count) (chosen_of used (numbers_from self.old.next count)))) }
         ensures err { OnErr result (Becomes self.old self.new (λ d. d)) }
+        ensures unwritten { OnErr result (token_draft self.new ≡ token_draft self.old) }
     {
         let (fields, next) = numbers(self.alloc, self.next, count)?;
         let given = chosen(self.alloc, &fields, used)?;
@@ -173,255 +314,4 @@ impl Work {
         self.next = next;
         Ok(given)
     }
-
-    /// Begins a branch, and gives what each arm is to spend once for each arm.
-    pub fn split(
-        &mut self,
-        on: u32,
-        tests: Decisions,
-        each: Vec<u32>,
-    ) -> Result<Vec<Vec<u32>>, Vec<u32>>
-        ensures left { IfOk result (λ left. map items_of left.items ≡ copies tests.rows each.items) }
-        ensures ok { OnOk result (Becomes self.old self.new (λ d. forked d on (decisions_of tests) each.items tests.rows)) }
-        ensures kept { IfErr result (λ kept. kept ≡ each) }
-        ensures err { OnErr result (Becomes self.old self.new (λ d. d)) }
-    {
-        let Ok(left) = copies(self.alloc, &each, tests.rows()) else {
-            return Err(each);
-        };
-        let Ok(own) = copies(self.alloc, &each, tests.rows()) else {
-            return Err(each);
-        };
-        if self.forks.reserve(1).is_err() {
-            return Err(each);
-        }
-        let mut kept = mem::replace(&mut self.owed, Vec::new(self.alloc));
-        take_all(&mut kept, &each);
-        let before = mem::replace(&mut self.steps, Vec::new(self.alloc));
-        self.inside = false;
-        self.forks.push_reserved(Fork {
-            on,
-            tests,
-            before,
-            lent: self.lent.len(),
-            kept,
-            each,
-            left: own,
-            arms: Vec::new(self.alloc),
-            tails: false,
-        });
-        Ok(left)
-    }
-
-    /// Enters the next arm of the newest branch, if there is one.
-    pub fn enter(&mut self)
-        ensures { Becomes self.old self.new entered }
-    {
-        let Some(mut fork) = self.forks.pop() else {
-            return;
-        };
-        match fork.left.pop() {
-            None => self.forks.push_reserved(fork),
-            Some(each) => {
-                self.owed = each;
-                self.lent.truncate(fork.lent);
-                self.inside = true;
-                self.forks.push_reserved(fork);
-            }
-        }
-    }
-
-    /// Ends the arm that is written, and tells whether that is by a tail call.
-    pub fn end_arm(&mut self, last: Last, tails: bool) -> Result<(), Last>
-        requires { self.old.ending ≡ None }
-        ensures ok { OnOk result (Becomes self.old self.new (λ d. ended_in d (last_code last) tails d.splits)) }
-        ensures kept { IfErr result (λ kept. kept ≡ last) }
-        ensures err { OnErr result (Becomes self.old self.new (λ d. d)) }
-        ensures ending { OnErr result (self.new.ending ≡ None) }
-    {
-        let Some(mut fork) = self.forks.pop() else {
-            return Ok(());
-        };
-        if fork.arms.reserve(1).is_err() {
-            self.forks.push_reserved(fork);
-            return Err(last);
-        }
-        let steps = mem::replace(&mut self.steps, Vec::new(self.alloc));
-        self.forks
-            .push_reserved(with_arm(fork, block_of(steps, last), tails));
-        self.owed = Vec::new(self.alloc);
-        self.inside = false;
-        Ok(())
-    }
-
-    /// Ends the arm that is written by giving a variable's value.
-    pub fn end_arm_by_value(&mut self, variable: u32) -> Result<(), NoMemory>
-        ensures ok { OnOk result (Becomes self.old self.new (λ d. ended_by_value d variable)) }
-        ensures err { OnErr result (Becomes self.old self.new (λ d. d)) }
-    {
-        match mem::replace(&mut self.ending, None) {
-            None => match self.end_arm(Last::Return(variable), false) {
-                Ok(()) => Ok(()),
-                Err(last) => {
-                    let_go(last);
-                    Err(NoMemory)
-                }
-            },
-            Some(last) => match self.end_arm(last, true) {
-                Ok(()) => Ok(()),
-                Err(last) => {
-                    let _ = mem::replace(&mut self.ending, Some(last));
-                    Err(NoMemory)
-                }
-            },
-        }
-    }
-
-    /// Ends the arm that is written by a tail call.
-    pub fn end_arm_by_call(&mut self, instance: u32, arguments: Vec<u32>) -> Result<(), NoMemory>
-        requires { self.old.ending ≡ None }
-        ensures ok { OnOk result (Becomes self.old self.new (λ d. ended_by_call d instance arguments.items)) }
-        ensures err { OnErr result (Becomes self.old self.new (λ d. d)) }
-    {
-        match self.end_arm(Last::TailCall(instance, arguments), true) {
-            Ok(()) => Ok(()),
-            Err(last) => {
-                let_go(last);
-                Err(NoMemory)
-            }
-        }
-    }
-
-    /// Joins the newest branch, and gives the variable that takes its value.
-    pub fn join(&mut self) -> Result<u32, NoMemory>
-        requires { self.old.ending ≡ None }
-        ensures variable { IfOk result (λ variable. variable ≡ self.old.next) }
-        ensures ok { OnOk result (Becomes self.old self.new joined) }
-        ensures err { OnErr result (Becomes self.old self.new (λ d. d)) }
-    {
-        let variable = self.next;
-        if variable == u32::MAX {
-            return Err(NoMemory);
-        }
-        let Some(mut fork) = self.forks.pop() else {
-            return Ok(variable);
-        };
-        if fork.before.reserve(1).is_err() || fork.kept.reserve(1).is_err() {
-            self.forks.push_reserved(fork);
-            return Err(NoMemory);
-        }
-        self.next = variable + 1;
-        self.resume(fork, variable);
-        Ok(variable)
-    }
-
-    // Goes on behind a branch, whose value the variable takes.
-    fn resume(&mut self, fork: Fork, variable: u32)
-        requires steps { vec_len fork.before < vec_capacity fork.before }
-        requires owed { vec_len fork.kept < vec_capacity fork.kept }
-        requires ending { self.old.ending ≡ None }
-        ensures { Becomes self.old self.new (λ d. resumed d (split_of fork) variable) }
-    {
-        let Fork {
-            on,
-            tests,
-            mut before,
-            lent,
-            mut kept,
-            each: _,
-            left: _,
-            arms,
-            tails,
-        } = fork;
-        kept.push_reserved(variable);
-        self.owed = kept;
-        self.lent.truncate(lent);
-        self.inside = true;
-        if tails {
-            self.steps = before;
-            let _ = mem::replace(&mut self.ending, Some(case_of(on, tests, arms)));
-            return;
-        }
-        before.push_reserved(run_of(self.alloc, variable, case_of(on, tests, arms)));
-        self.steps = before;
-    }
-
-    /// The function that ends by a tail call.
-    pub fn finish_by_call(self, instance: u32, arguments: Vec<u32>) -> CountedFun
-        ensures instance { result.instance ≡ self.instance }
-        ensures parameters { result.parameters ≡ self.parameters }
-        ensures body { block_code result.body ≡ plug (map step_move self.steps.items) (tail_call instance arguments.items) }
-    {
-        CountedFun::new(
-            self.instance,
-            self.parameters,
-            block_of(self.steps, Last::TailCall(instance, arguments)),
-        )
-    }
-}
-
-// An end that is not written.
-fn let_go(_last: Last) {}
-
-fn block_of(steps: Vec<Step>, last: Last) -> Block
-    ensures { block_code result ≡ plug (map step_move steps.items) (last_code last) }
-{
-    Block { steps, last }
-}
-
-fn case_of(on: u32, tests: Decisions, arms: Vec<Block>) -> Last
-    ensures { last_code result ≡ case on (decisions_of tests) (arms_of (map block_code arms.items)) }
-{
-    Last::Case(on, tests, arms)
-}
-
-// The step that opens a cell, by its count or not.
-fn opening(
-    variable: u32,
-    constructor: u32,
-    fields: Vec<u32>,
-    used: Vec<u32>,
-    by_count: bool,
-) -> Step
-    ensures { step_move result ≡ opens_by by_count variable constructor fields.items used.items }
-{
-    if by_count {
-        return Step::IfUnique(variable, constructor, fields, used);
-    }
-    Step::Open(variable, constructor, fields, used)
-}
-
-// The steps that read the fields of a cell, and then duplicate some of them.
-fn reading(
-    alloc: Global,
-    variable: u32,
-    constructor: u32,
-    fields: Vec<u32>,
-    used: &[u32],
-) -> Result<Vec<Step>, NoMemory>
-    ensures { IfOk result (λ steps. map step_move steps.items ≡ reads variable constructor fields.items ∷ map dups used.now) }
-{
-    let mut steps = Vec::new(alloc);
-    steps.push(Step::Read(variable, constructor, fields))?;
-    for field in used {
-        steps.push(Step::Dup(*field))?;
-    }
-    Ok(steps)
-}
-
-// The step that runs a block which is no more than its end.
-fn run_of(alloc: Global, variable: u32, last: Last) -> Step
-    ensures { step_move result ≡ runs variable (last_code last) }
-{
-    Step::Inside(variable, block_of(Vec::new(alloc), last))
-}
-
-// A branch with one more arm.
-fn with_arm(mut fork: Fork, arm: Block, tails: bool) -> Fork
-    requires { vec_len fork.arms < vec_capacity fork.arms }
-    ensures { split_of result ≡ more_arms (split_of fork) (block_code arm) tails }
-{
-    fork.arms.push_reserved(arm);
-    fork.tails = fork.tails | tails;
-    fork
 }

@@ -1,4 +1,4 @@
-use Rattle.kk_emitter.specs.TokenEmissions.{counted_of}
+use Rattle.kk_emitter.specs.Emissions.{counted_of}
 use Rattle.counted_tests.proofs.FunctionMarks.{ended_marked}
 use Rattle.counted_tests.proofs.ending.finished.Goals as goal
 

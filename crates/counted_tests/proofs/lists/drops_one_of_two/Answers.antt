@@ -1,5 +1,5 @@
 use Rattle.std.proofs.Common.{refl}
-use Rattle.kk_emitter.specs.TokenEmissions.{counted_of}
+use Rattle.kk_emitter.specs.Emissions.{counted_of}
 use Rattle.counted_tests.proofs.FunctionMarks.{same_begun, ended_marked, drops_is, drops_marked}
 use Rattle.counted_tests.proofs.lists.drops_one_of_two.Goals as goal
 

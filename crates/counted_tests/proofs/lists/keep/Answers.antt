@@ -1,7 +1,7 @@
 use Rattle.std.proofs.Common.{true, pos, [], ◌∷◌, sym, ap, ◌∙◌}
 use Rattle.kk_syntax.specs.declared.program.Form.TheVariants.{Number, Construct}
 use Rattle.kk_emitter.specs.Drafts.{fields_given}
-use Rattle.kk_emitter.specs.TokenEmissions.{counted_of}
+use Rattle.kk_emitter.specs.Emissions.{counted_of}
 use Rattle.counted_tests.proofs.FunctionMarks.{same_begun, given_same, unpacked_same, computed_same, only_taken, ended_marked, keep_marked}
 use Rattle.counted_tests.proofs.lists.keep.Goals as goal
 

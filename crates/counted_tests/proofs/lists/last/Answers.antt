@@ -1,6 +1,6 @@
 use Rattle.std.proofs.Common.{false, [], ◌∷◌, sym, ap, ◌∙◌}
 use Rattle.kk_emitter.specs.Drafts.{fields_given}
-use Rattle.kk_emitter.specs.TokenEmissions.{counted_of}
+use Rattle.kk_emitter.specs.Emissions.{counted_of}
 use Rattle.counted_tests.proofs.FunctionMarks.{same_begun, given_same, unpacked_same, only_taken, called_marked, last_marked}
 use Rattle.counted_tests.proofs.lists.last.Goals as goal
 

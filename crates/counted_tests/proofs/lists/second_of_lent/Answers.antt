@@ -1,6 +1,6 @@
 use Rattle.std.proofs.Common.{◌+◌, ap, ◌∙◌}
 use Rattle.kk_emitter.specs.Drafts.{looked, duplicated}
-use Rattle.kk_emitter.specs.TokenEmissions.{counted_of}
+use Rattle.kk_emitter.specs.Emissions.{counted_of}
 use Rattle.counted_tests.proofs.FunctionMarks.{same_begun, ended_marked, second_marked}
 use Rattle.counted_tests.proofs.lists.second_of_lent.Goals as goal
 

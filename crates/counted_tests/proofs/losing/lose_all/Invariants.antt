@@ -1,5 +1,5 @@
 use Rattle.std.proofs.Common.{◌≡◌, [], true, vec_len}
-use Rattle.kk_emitter.specs.TokenEmissions.{counted_of}
+use Rattle.kk_emitter.specs.Emissions.{counted_of}
 use Rattle.counted_tests.proofs.losing.lose_all.Given as goal
 
 abbrev pub invariant-loop-owed : goal.invariant-loop-owed

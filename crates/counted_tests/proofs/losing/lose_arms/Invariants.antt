@@ -1,5 +1,5 @@
 use Rattle.std.proofs.Common.{◌≡◌, true, length}
-use Rattle.kk_emitter.specs.TokenEmissions.{counted_of}
+use Rattle.kk_emitter.specs.Emissions.{counted_of}
 use Rattle.kk_emitter.specs.Works.{left_in}
 use Rattle.counted_tests.proofs.losing.lose_arms.Given as goal
 

@@ -1,6 +1,6 @@
 use Rattle.std.proofs.Common.{ap, ◌∙◌}
 use Rattle.kk_emitter.specs.Drafts.{given, ended_by_value}
-use Rattle.kk_emitter.specs.TokenEmissions.{counted_of}
+use Rattle.kk_emitter.specs.Emissions.{counted_of}
 use Rattle.counted_tests.specs.TwoRows.{behind_first}
 use Rattle.counted_tests.proofs.FunctionMarks.{same_begun, increase_ends}
 use Rattle.counted_tests.proofs.rows.inc.Goals as goal

@@ -1,11 +1,15 @@
-use Rattle.std.proofs.Common.{ap, ◌∙◌}
+use Rattle.std.proofs.Common.{[], ap, true, ◌∙◌}
+use Rattle.kk_counted.proofs.TokenedViews.{tail_call_end}
+use Rattle.kk_counted.specs.BareForms.{bare}
 use Rattle.kk_emitter.specs.Drafts.{ended_in}
-use Rattle.kk_emitter.specs.Works.{draft, back_to_front, split_of}
-use Rattle.std.proofs.Common.{true, []}
-use Rattle.kk_counted.proofs.FormViews.{tail_call_code}
+use Rattle.kk_emitter.specs.Works.{back_to_front, draft, split_of}
+use Rattle.std.specs.Prelude.{Result, Ok, Err, OnOk}
 use Rattle.kk_emitter.proofs.work.Work.end_arm_by_call.Goals as goal
 
-pub returns-in-Ok-clause-ok : goal.returns-in-Ok-clause-ok
-returns-in-Ok-clause-ok c =
-    λ positions counts marks. c.in-Ok.ensures.ok positions counts marks
-    ∙ ap (λ code. ended_in (draft positions counts marks c.args.self.now) code true (back_to_front split_of c.args.self.now.forks.items [])) (tail_call_code c.args.instance c.args.arguments)
+on_ok : {A E : Type 0} (result : Result A E) (P Q : Type 0) → (P → Q) → OnOk result P → OnOk result Q
+on_ok (Ok a) P Q step holds = step holds
+on_ok (Err e) P Q step holds = tt
+
+pub returns-clause-ok : goal.returns-clause-ok
+returns-clause-ok c =
+    on_ok c.end_arm.result _ _ (λ becomes positions counts marks. becomes positions counts marks ∙ ap (λ code. ended_in (draft positions counts marks c.args.self.now) (bare code) true (back_to_front split_of c.args.self.now.forks.items [])) (tail_call_end c.args.instance c.args.arguments)) c.end_arm.ensures.ok

@@ -1,7 +1,0 @@
-use Rattle.std.proofs.Common.{◌≡◌, map, drop}
-use Rattle.std.specs.Prelude.{max}
-use Rattle.kk_emitter.specs.TokenDrafts.{arm_of, above_all}
-use Rattle.kk_emitter.proofs.token_joins.above_all.Given as goal
-
-abbrev pub invariant-loop-arm : goal.invariant-loop-arm
-invariant-loop-arm l = max l.above (above_all (map arm_of (drop l.arm-index l.arms))) ≡ above_all (map arm_of l.arms)
