@@ -1,6 +1,6 @@
 -- What an emitter holds after a change, as the change of its draft.
 use Rattle.std.proofs.Common.{◌≡◌, ℕ, zero, suc, ◌+◌, ◌-◌, ◌==◌, Bool, true, false, not, List, [], ◌∷◌, ◌++◌, map, take, Option, Some, None, refl, sym, ap, ◌∙◌, arith}
-use Rattle.std.specs.Prelude.{filter, option_map}
+use Rattle.std.specs.Prelude.{filter, option_map, Result, Ok, Err, OnOk}
 use Rattle.std.proofs.lemmas.List.{map-append}
 use Rattle.std.specs.Global.{Vec}
 use Rattle.kk_syntax.specs.PositionsOf.{PositionTable}
@@ -22,6 +22,11 @@ use Rattle.kk_emitter.proofs.TokenDraftChanges.{bare_more, put_spent}
 pub back_more : {A B : Type 0} (f : A → B) (xs : List A) (x : A) (done : List B) → back_to_front f (xs ++ x ∷ []) done ≡ f x ∷ back_to_front f xs done
 back_more f [] x done = refl
 back_more f (y ∷ xs) x done = back_more f xs x (f y ∷ done)
+
+-- what holds of a call that has answered follows from what it ensures
+pub on_ok : {A E : Type 0} (result : Result A E) (P Q : Type 0) → (P → Q) → OnOk result P → OnOk result Q
+on_ok (Ok a) P Q step holds = step holds
+on_ok (Err e) P Q step holds = tt
 
 -- drafts with equal parts are equal
 pub same_draft : (d : Draft) (n n' : ℕ) (s s' : List Move) (o o' u u' : List ℕ) (f f' : List Split) (e e' : Option Counted) → n ≡ n' → s ≡ s' → o ≡ o' → u ≡ u' → f ≡ f' → e ≡ e'

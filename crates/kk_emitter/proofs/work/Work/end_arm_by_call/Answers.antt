@@ -3,12 +3,8 @@ use Rattle.kk_counted.proofs.TokenedViews.{tail_call_end}
 use Rattle.kk_counted.specs.BareForms.{bare}
 use Rattle.kk_emitter.specs.Drafts.{ended_in}
 use Rattle.kk_emitter.specs.Works.{back_to_front, draft, split_of}
-use Rattle.std.specs.Prelude.{Result, Ok, Err, OnOk}
+use Rattle.kk_emitter.proofs.DraftChanges.{on_ok}
 use Rattle.kk_emitter.proofs.work.Work.end_arm_by_call.Goals as goal
-
-on_ok : {A E : Type 0} (result : Result A E) (P Q : Type 0) → (P → Q) → OnOk result P → OnOk result Q
-on_ok (Ok a) P Q step holds = step holds
-on_ok (Err e) P Q step holds = tt
 
 pub returns-clause-ok : goal.returns-clause-ok
 returns-clause-ok c =

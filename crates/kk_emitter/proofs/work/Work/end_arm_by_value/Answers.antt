@@ -2,13 +2,8 @@ use Rattle.std.proofs.Common.{None, Some, ap, false, refl, sym, true, ◌∙◌}
 use Rattle.kk_counted.proofs.TokenedViews.{return_end}
 use Rattle.kk_counted.specs.BareForms.{bare}
 use Rattle.kk_counted.specs.TokenedForms.{tokened_last_code}
-use Rattle.kk_emitter.proofs.DraftChanges.{ended_at}
-use Rattle.std.specs.Prelude.{Result, Ok, Err, OnOk}
+use Rattle.kk_emitter.proofs.DraftChanges.{ended_at, on_ok}
 use Rattle.kk_emitter.proofs.work.Work.end_arm_by_value.Goals as goal
-
-on_ok : {A E : Type 0} (result : Result A E) (P Q : Type 0) → (P → Q) → OnOk result P → OnOk result Q
-on_ok (Ok a) P Q step holds = step holds
-on_ok (Err e) P Q step holds = tt
 
 pub returns-in-None-clause-ok : goal.returns-in-None-clause-ok
 returns-in-None-clause-ok c =
